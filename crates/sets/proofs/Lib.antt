@@ -1,0 +1,12 @@
+pub mod Tests
+pub mod Filling
+pub mod Simplification
+pub mod Combination
+pub mod Contracting
+pub mod Numbering
+pub mod Splitting
+pub mod Variables
+pub mod Disagreement
+pub mod Unification
+pub mod Laws
+pub mod Cases
