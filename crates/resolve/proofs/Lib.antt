@@ -16,3 +16,13 @@ pub mod TraceProgress
 pub mod Demand3
 pub mod AcceptedTexts
 pub mod Boundaries
+pub mod EnvironmentValues
+pub mod Invariants
+pub mod Occurrences
+pub mod FreshNumbers
+pub mod SymbolNumbers
+pub mod EndNumbers
+pub mod AcceptedNumbers
+pub mod Replay
+pub mod Paths
+pub mod Backtracking

@@ -7,6 +7,7 @@ pub mod Figure10
 pub mod Trace
 pub mod Tree
 pub mod Walk
+pub mod Backtrack
 pub mod Runner
 pub mod Answer
 pub mod Demand2

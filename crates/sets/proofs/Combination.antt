@@ -128,7 +128,7 @@ dropped-under t d done out q w e = or-either (isSymbol (q .left) && isSymbol (q 
     (w .0, ap (λ (b : Bool). b || stands q out) s))
     (λ s. after-stood done (under t d) out (applyNonEquality t q) e (stands-under t q d s))
 
-simplify-append : (done qs rs : Restriction) → simplifyAfter done (qs ++ rs) ≡ bind (simplifyAfter done qs) (λ o. simplifyAfter o rs)
+pub simplify-append : (done qs rs : Restriction) → simplifyAfter done (qs ++ rs) ≡ bind (simplifyAfter done qs) (λ o. simplifyAfter o rs)
 unfolding bind
 simplify-append done [] rs = refl
 simplify-append done (q ∷ qs) rs = pick (kind done q) (λ d. simplify-append d qs rs)

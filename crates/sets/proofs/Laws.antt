@@ -12,7 +12,8 @@ use Rattle.sets.specs.Split.{takeNumbers, splitAtomic, splitExp, InContr
 use Rattle.sets.specs.Intersection.{meeting, GroundMeeting, Intersected, common, disjoint, tooLarge, NodeLimit, unify, bindingsEnough, intersect, noLimit}
 use Rattle.sets.proofs.Filling.{ground-apply, apply-compose, Lawful}
 use Rattle.sets.proofs.Simplification.{simplify-complete, Consistent, consistent-satisfiable, simplify-consistent}
-use Rattle.sets.proofs.Combination.{subst-subst, add-add, add-subst}
+use Rattle.sets.proofs.KeptOrder.{Subsequence, simplify-order}
+use Rattle.sets.proofs.Combination.{simplify-idempotent, subst-subst, add-add, add-subst}
 use Rattle.sets.proofs.Contracting.{contract-subset, Fresh}
 use Rattle.sets.proofs.Splitting.{represents-contracted, trivial-perfect, Determines, DeterminesAtomic, splitAtomic-perfect, splitExp-perfect}
 use Rattle.sets.proofs.Unification.{intersect-unified, intersect-sound, intersect-found, intersect-disjoint, limited-common, limited-disjoint, unlimited-fits, more-fuel}
@@ -35,6 +36,13 @@ simplified-consistent = simplify-consistent
 -- .. and a contradiction has none
 pub contradiction-empty : {K : Construction} (P : CRPair K) → simplify (P .neqs) ≡ none → (g : K .Ground) → InConcretization P g → ⊥
 contradiction-empty P e g i = Option·none-ne-some _ (inv e ∙ simplify-complete (i .θ) (P .neqs) (i .sat) .1)
+
+-- definition 8: simplifying keeps some of the non-equalities, in their order, and once is enough
+pub simplified-order : (qs out : Restriction) → simplify qs ≡ some out → Subsequence out qs
+simplified-order = simplify-order
+
+pub simplified-again : (qs out : Restriction) → simplify qs ≡ some out → simplify out ≡ some out
+simplified-again = simplify-idempotent
 
 -- theorem 26: contracting implies subset
 pub contracting-subset : {K : Construction} → Lawful K → (κ : Contraction) (P : CRPair K) (g : K .Ground) → InContracted (contract κ P) g → InConcretization P g

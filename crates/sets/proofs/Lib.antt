@@ -1,6 +1,7 @@
 pub mod Tests
 pub mod Filling
 pub mod Simplification
+pub mod KeptOrder
 pub mod Combination
 pub mod Contracting
 pub mod Numbering
@@ -10,3 +11,18 @@ pub mod Disagreement
 pub mod Unification
 pub mod Laws
 pub mod Cases
+pub mod Turns
+pub mod CellLaws
+pub mod FillLaws
+pub mod CounterLaws
+pub mod ContractionLaws
+pub mod RestrictionTurns
+pub mod RestrictionLaws
+pub mod DisagreementTurns
+pub mod IntersectionTurns
+pub mod DisagreementLaws
+pub mod ClassCells
+pub mod ClassFilling
+pub mod IntersectionLaws
+pub mod Predicates
+pub mod Numbers

@@ -20,7 +20,7 @@ use Rattle.sets.proofs.Variables.{Var, ev, av, remove, remove-lt, Cover
 use Rattle.sets.proofs.Disagreement.{disagreement-holds, disagreement-occurs-checked, IsIdentity, disagreement-identity, Bound, disagreement-bound}
 
 -- What binding makes of a meeting.
-abbrev bound : Substitution → Restriction → CRPair meeting → CRPair meeting
+abbrev pub bound : Substitution → Restriction → CRPair meeting → CRPair meeting
 bound s qs P = record { con = meeting .apply s (P .con); neqs = qs }
 
 -- A common class is the meeting's under one substitution, which makes its output the wanted one; so is its restriction, simplified.

@@ -5,3 +5,10 @@ pub mod Contraction
 pub mod Class
 pub mod Split
 pub mod Intersection
+pub mod Cells
+pub mod Fill
+pub mod Counting
+pub mod Contracting
+pub mod Restricting
+pub mod Disagreeing
+pub mod Meeting

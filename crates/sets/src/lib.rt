@@ -1,1 +1,9 @@
-// The set operations of 01 ("Sets, filling and splitting"): their definitions are in specs/, the laws in proofs/.
+// The set operations of 01 ("Sets, filling and splitting") over cells: a tree in preorder, one u16 a node. Each function
+// is equated with a definition of specs/ for slices of any content; proofs/ says what that is where the cells hold trees.
+pub mod cell;
+pub mod contraction;
+pub mod counter;
+pub mod difference;
+pub mod fill;
+pub mod intersection;
+pub mod restriction;

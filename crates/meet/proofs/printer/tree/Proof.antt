@@ -1,0 +1,56 @@
+-- `tree` ends with its cells.
+use Prim.Native.Nat.{_-_}
+use mathlib.Core.Path.{_≡_}
+use lib.ListN.{length}
+use borrow.Author.Needs.{needs}
+use Rattle.meet.proofs.printer.tree.Statement.{statement}
+use Rattle.meet.proofs.printer.tree.Tie as tie
+
+abbrev Inv-loop : tie.InvT-loop
+Inv-loop page₀ at text names cells n waits₀ printed₀ i₀ page waits printed i = length page ≡ length page₀
+
+abbrev μ-loop : tie.MeasureT-loop
+μ-loop page₀ at text names cells n waits₀ printed₀ i₀ page waits printed i = n - i
+
+slice-aggregate-waits : tie.Need-slice-aggregate-waits Inv-loop μ-loop
+slice-aggregate-waits c = search needs
+
+loop-holds : tie.Need-loop-holds Inv-loop μ-loop
+loop-holds c = search needs
+
+cell-requires : tie.Need-cell-requires Inv-loop μ-loop
+cell-requires c κs = search needs
+
+node-requires : tie.Need-node-requires Inv-loop μ-loop
+node-requires c κs = search needs
+
+add-i : tie.Need-add-i Inv-loop μ-loop
+add-i c = search needs
+
+loop-less : tie.Need-loop-less Inv-loop μ-loop
+loop-less c = search needs
+
+loop-again : tie.Need-loop-again Inv-loop μ-loop
+loop-again c = search needs
+
+same-length : tie.Need-same-length Inv-loop μ-loop
+same-length c = search needs
+
+returns : tie.Need-returns Inv-loop μ-loop
+returns c = search needs
+
+pub tree-spec : {M : Type 1} → statement M
+tree-spec =
+    tie.close
+    (tie.spec
+    Inv-loop
+    μ-loop
+    slice-aggregate-waits
+    loop-holds
+    cell-requires
+    node-requires
+    add-i
+    loop-less
+    loop-again
+    same-length
+    returns)

@@ -1,0 +1,85 @@
+-- Expressions in cells, and what the operations on runs of cells do, for cells of any content.
+use Prim.Native.Nat.{ℕ, zero, suc, _+_, _-_, _*_}
+use mathlib.Core.Path.{_≡_}
+use mathlib.Core.Bool.{Bool, true, false, cond, _&&_}
+use mathlib.Core.List.{List, [], _∷_, _++_}
+use lib.Dec.{eqb, leb}
+use lib.ListN.{length, take, drop}
+use lib.Seq.{paste}
+use Rattle.sets.specs.Expression.{AtomicExp, sym, avar, Exp, atm, evar, pair}
+use Rattle.sets.specs.Restriction.{Restriction}
+
+-- A node is 4 n + tag: tag 0 a pair (4), 1 the symbol n, 2 the variable `?e` n, 3 the variable `?a` n. 0 is no node.
+abbrev pub pairCode : ℕ
+pairCode = 4
+
+abbrev pub evarCode : ℕ → ℕ
+evarCode n = 4 * n + 2
+
+abbrev pub avarCode : ℕ → ℕ
+avarCode n = 4 * n + 3
+
+abbrev pub symbolCode : ℕ → ℕ
+symbolCode z = 4 * z + 1
+
+abbrev pub atomicCode : AtomicExp → ℕ
+atomicCode (sym z) = symbolCode z
+atomicCode (avar n) = avarCode n
+
+-- a tree in preorder
+abbrev pub cells : Exp → List ℕ
+cells (atm x) = atomicCode x ∷ []
+cells (evar n) = evarCode n ∷ []
+cells (pair c d) = pairCode ∷ (cells c ++ cells d)
+
+abbrev pub cellsAll : List Exp → List ℕ
+cellsAll [] = []
+cellsAll (c ∷ cs) = cells c ++ cellsAll cs
+
+-- a restriction: two cells a non-equality
+abbrev pub restrictionCells : Restriction → List ℕ
+restrictionCells [] = []
+restrictionCells (q ∷ qs) = atomicCode (q .left) ∷ atomicCode (q .right) ∷ restrictionCells qs
+
+-- the cells from one place up to another, as far as there are any
+abbrev pub part : ℕ → ℕ → List ℕ → List ℕ
+part from to s = take (to - from) (drop from s)
+
+-- an answer beside what it leaves in a storage
+pub record CopyAnswer : Type 0 where
+  pub done : Bool
+  pub cells : List ℕ
+
+abbrev pub notCopied : List ℕ → CopyAnswer
+notCopied d = record { done = false; cells = d }
+
+abbrev pub copied : List ℕ → ℕ → ℕ → List ℕ → ℕ → CopyAnswer
+copied src from n dst at =
+    cond (leb (from + n) (length src) && leb (at + n) (length dst))
+    (record { done = true; cells = paste dst at (drop from src) n })
+    (notCopied dst)
+
+-- the cells that `need` trees take at the front of a list
+unfoldable pub walkTrees : List ℕ → ℕ → ℕ
+walkTrees [] need = 0
+walkTrees (c ∷ l) zero = 0
+walkTrees (c ∷ l) (suc k) = 1 + walkTrees l (cond (eqb c 4) (suc (suc k)) k)
+
+unfoldable pub treeEnd : List ℕ → ℕ → ℕ
+unfolding walkTrees
+treeEnd s at = at + walkTrees (drop at s) 1
+
+-- the same first n cells, or the same fewer
+unfoldable pub sameRun : ℕ → List ℕ → List ℕ → Bool
+sameRun zero a b = true
+sameRun (suc n) [] [] = true
+sameRun (suc n) [] (y ∷ b) = false
+sameRun (suc n) (x ∷ a) [] = false
+sameRun (suc n) (x ∷ a) (y ∷ b) = cond (eqb x y) (sameRun n a b) false
+
+unfoldable pub anyCell : ℕ → List ℕ → Bool
+anyCell x [] = false
+anyCell x (c ∷ l) = cond (eqb c x) true (anyCell x l)
+
+abbrev pub standsIn : List ℕ → ℕ → ℕ → ℕ → Bool
+standsIn s from to x = anyCell x (part from to s)
