@@ -3,10 +3,10 @@ use Prim.Native.Nat.{ℕ}
 use mathlib.Core.Path.{_≡_, refl, ap, ap₂, _∙_}
 use mathlib.Core.Bool.{Bool, true, false, cond, _||_}
 use mathlib.Core.List.{List, [], _∷_, _++_, map}
-use Rattle.sets.specs.Expression.{sym, avar, Exp, atm, evar, pair}
-use Rattle.sets.specs.Substitution.{Substitution, apply, applyAll}
-use Rattle.sets.specs.Class.{IOPair, applyIO, IOClass}
-use Rattle.resolve.specs.Demand2.{InstanceOf}
+use Rattle.expressions.specs.Expression.{sym, avar, Exp, atm, evar, pair}
+use Rattle.expressions.specs.Substitution.{Substitution, apply, applyAll}
+use Rattle.expressions.specs.Class.{IOPair, applyIO, IOClass}
+use Rattle.semantics.specs.Demand2.{InstanceOf}
 use Rattle.listing.specs.Bindings.{same, Binding, isBound, addBinding, bindingsOf, bindingsOfAll, bindings, hasVariable, addVariable, variablesOf, variablesOfAll, variables}
 
 -- a variable under a substitution

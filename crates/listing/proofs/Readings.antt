@@ -3,7 +3,7 @@ use Prim.Native.Nat.{ℕ, zero, suc}
 use Prim.Native.String.{String}
 use mathlib.Core.Path.{_≡_, refl}
 use mathlib.Core.List.{List, [], _∷_, _++_, map}
-use Rattle.syntax.specs.Bytes.{txt}
+use Rattle.language.specs.Bytes.{txt}
 use Rattle.listing.specs.Text.{listText, runText}
 
 -- a text that stands k times

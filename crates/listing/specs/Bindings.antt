@@ -3,9 +3,9 @@ use Prim.Native.Nat.{ℕ}
 use mathlib.Core.Bool.{Bool, true, false, cond, _&&_, _||_}
 use mathlib.Core.List.{List, [], _∷_, _++_}
 use lib.Dec.{eqb}
-use Rattle.sets.specs.Expression.{AtomicExp, sym, avar, Exp, atm, evar, pair}
-use Rattle.sets.specs.Restriction.{sameAtomic}
-use Rattle.sets.specs.Class.{IOPair}
+use Rattle.expressions.specs.Expression.{AtomicExp, sym, avar, Exp, atm, evar, pair}
+use Rattle.expressions.specs.Restriction.{sameAtomic}
+use Rattle.expressions.specs.Class.{IOPair}
 
 abbrev pub same : Exp → Exp → Bool
 same (atm x) (atm y) = sameAtomic x y

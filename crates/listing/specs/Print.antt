@@ -4,13 +4,13 @@ use mathlib.Core.Bool.{Bool, true, false, cond}
 use mathlib.Core.List.{List, [], _∷_, _++_}
 use lib.Dec.{ltb}
 use lib.ListN.{length, getD}
-use Rattle.sets.specs.Expression.{Value, atom, cons, AtomicExp, sym, avar, Exp, atm, evar, pair}
-use Rattle.sets.specs.Restriction.{NonEquality, Restriction}
-use Rattle.sets.specs.Class.{IOPair}
-use Rattle.syntax.specs.Bytes.{txt}
-use Rattle.syntax.specs.Words.{Word}
-use Rattle.resolve.specs.Tree.{Line}
-use Rattle.resolve.specs.Walk.{Stop, stop21, stop22, stop23, Word as EndingWord, whole, cut, stop, Walked, wordOf, linesOf, countOf}
+use Rattle.expressions.specs.Expression.{Value, atom, cons, AtomicExp, sym, avar, Exp, atm, evar, pair}
+use Rattle.expressions.specs.Restriction.{NonEquality, Restriction}
+use Rattle.expressions.specs.Class.{IOPair}
+use Rattle.language.specs.Bytes.{txt}
+use Rattle.language.specs.Words.{Word}
+use Rattle.semantics.specs.Tree.{Line}
+use Rattle.semantics.specs.Walk.{Stop, stop21, stop22, stop23, Word as EndingWord, whole, cut, stop, Walked, wordOf, linesOf, countOf}
 use Rattle.listing.specs.Bindings.{Binding, same, bindings}
 
 -- a number in base ten; it has no more digits than it counts and one

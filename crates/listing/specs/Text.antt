@@ -1,12 +1,12 @@
 -- What the tools print, from the bytes of the two texts to the bytes of the answer.
 use Prim.Native.Nat.{ℕ}
 use mathlib.Core.List.{List, [], _∷_, _++_}
-use Rattle.syntax.specs.Bytes.{txt, Refusal}
-use Rattle.syntax.specs.Words.{Word}
-use Rattle.syntax.specs.Tokens.{Text, ofProgram, ofJob, symbolsOf}
-use Rattle.syntax.specs.Reading.{symbolNames}
-use Rattle.resolve.specs.Runner.{Ran, value, ranOver, notWithin}
-use Rattle.resolve.specs.Answer.{Answer, answered, refused, Listed, list, run}
+use Rattle.language.specs.Bytes.{txt, Refusal}
+use Rattle.language.specs.Words.{Word}
+use Rattle.language.specs.Tokens.{Text, ofProgram, ofJob, symbolsOf}
+use Rattle.language.specs.Reading.{symbolNames}
+use Rattle.semantics.specs.Runner.{Ran, value, ranOver, notWithin}
+use Rattle.semantics.specs.Answer.{Answer, answered, refused, Listed, list, run}
 use Rattle.listing.specs.Print.{digits, printValue, printListing}
 
 -- "p program, j job"

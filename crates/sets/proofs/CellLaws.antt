@@ -9,9 +9,9 @@ use lib.Dec.{eqb, leb}
 use lib.ListN.{length, take, drop, length-append, take-append-drop}
 use lib.Seq.{paste, drop-drop, drop-append-seam, take-append-seam}
 use borrow.Author.Tests.{eqb-true, eqb-false, eq-eqb, ne-eqb, le-leb, lt-leb}
-use Rattle.sets.specs.Expression.{AtomicExp, sym, avar, Exp, atm, evar, pair, nodes, nodesAll}
-use Rattle.sets.specs.Restriction.{Restriction, nodesRestriction}
-use Rattle.sets.specs.Intersection.{occurs}
+use Rattle.expressions.specs.Expression.{AtomicExp, sym, avar, Exp, atm, evar, pair, nodes, nodesAll}
+use Rattle.expressions.specs.Restriction.{Restriction, nodesRestriction}
+use Rattle.expressions.specs.Intersection.{occurs}
 use Rattle.sets.specs.Cells.{pairCode, evarCode, atomicCode, cells, cellsAll, restrictionCells, part, notCopied, copied, walkTrees, treeEnd, sameRun, anyCell}
 
 -- the codes tell the kinds of node apart, and the nodes of a kind

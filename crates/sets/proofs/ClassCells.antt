@@ -8,9 +8,9 @@ use lib.Dec.{ltb}
 use lib.ListN.{length, take, drop, length-append}
 use lib.Seq.{take-take, take-at, take-add, drop-append-seam}
 use borrow.Author.Tests.{lt-ltb, le-ltb, ltb-true, ltb-false}
-use Rattle.sets.specs.Expression.{nodes, nodesAll}
-use Rattle.sets.specs.Contraction.{CRPair}
-use Rattle.sets.specs.Intersection.{Meeting, meeting, nodesMeeting}
+use Rattle.expressions.specs.Expression.{nodes, nodesAll}
+use Rattle.expressions.specs.Contraction.{CRPair}
+use Rattle.expressions.specs.Intersection.{Meeting, meeting, nodesMeeting}
 use Rattle.sets.specs.Cells.{cells, cellsAll, restrictionCells, part}
 use Rattle.sets.specs.Meeting.{nodesCells}
 use Rattle.sets.specs.declared.intersection.Class.{Class}

@@ -9,11 +9,11 @@ use lib.Dec.{eqb}
 use lib.ListN.{length, take, drop, length-append, take-append-drop}
 use lib.Seq.{take-at, length-take-le, paste, length-paste, take-paste}
 use borrow.Author.Tests.{lt-ltb, ltb-false}
-use Rattle.sets.specs.Expression.{AtomicExp, Exp, nodes, nodesAll}
-use Rattle.sets.specs.Substitution.{Substitution, apply, applyAll, substE, substA}
-use Rattle.sets.specs.Restriction.{Restriction}
-use Rattle.sets.specs.Contraction.{CRPair}
-use Rattle.sets.specs.Intersection.{meeting, nodesMeeting}
+use Rattle.expressions.specs.Expression.{AtomicExp, Exp, nodes, nodesAll}
+use Rattle.expressions.specs.Substitution.{Substitution, apply, applyAll, substE, substA}
+use Rattle.expressions.specs.Restriction.{Restriction}
+use Rattle.expressions.specs.Contraction.{CRPair}
+use Rattle.expressions.specs.Intersection.{meeting, nodesMeeting}
 use Rattle.sets.specs.Cells.{evarCode, avarCode, atomicCode, cells, cellsAll, part, CopyAnswer, copied}
 use Rattle.sets.specs.Fill.{spread, renamed, filled}
 use Rattle.sets.specs.Meeting.{sized, TreeAnswer, afterFill, lastFill, fillTrees, copyBack, StepAnswer, treeStep}
@@ -21,7 +21,7 @@ use Rattle.sets.specs.declared.intersection.Class.{Class}
 use Rattle.sets.specs.declared.intersection.Met.the-variants.{Over}
 use Rattle.sets.specs.declared.intersection.Step.{Step}
 use Rattle.sets.specs.declared.intersection.Step.the-variants.{On, End}
-use Rattle.sets.proofs.Unification.{bound}
+use Rattle.expressions.proofs.Unification.{bound}
 use Rattle.sets.proofs.CellLaws.{cells-nodes, cellsAll-nodes, copied-done}
 use Rattle.sets.proofs.FillLaws.{spread-append, spread-apply-e, spread-apply-all-e, spread-apply-a, spread-apply-all-a, renamed-front, laid, length-laid, filled-done, filled-over}
 use Rattle.sets.proofs.RestrictionLaws.{Front}

@@ -5,10 +5,10 @@ use mathlib.Core.Bool.{Bool, true, false, cond}
 use native.Mathlib.Omega.{arith}
 use lib.Dec.{eqb}
 use borrow.Author.Tests.{ne-eqb}
-use Rattle.sets.specs.Expression.{AtomicExp, sym, avar, atm, evar}
-use Rattle.sets.specs.Restriction.{sameAtomic}
-use Rattle.sets.specs.Contraction.{identity, bindE, bindA, mkBind, equalityContraction}
-use Rattle.sets.specs.Split.{takeNumbers, splitAtomic, splitExp}
+use Rattle.expressions.specs.Expression.{AtomicExp, sym, avar, atm, evar}
+use Rattle.expressions.specs.Restriction.{sameAtomic}
+use Rattle.expressions.specs.Contraction.{identity, bindE, bindA, mkBind, equalityContraction}
+use Rattle.expressions.specs.Split.{takeNumbers, splitAtomic, splitExp}
 use Rattle.sets.specs.Cells.{evarCode, avarCode, symbolCode, atomicCode}
 use Rattle.sets.specs.Counting.{fresh}
 use Rattle.sets.specs.Contracting.{atomicOf, leafOf, contractionOf, equality, splitAtomicCodes, splitExpCodes}

@@ -8,17 +8,17 @@ use lib.Dec.{eqb}
 use lib.ListN.{length, take, drop, getD, length-append, length-take, length-drop, take-append-drop}
 use lib.Seq.{drop-drop, drop-append-seam, getD-drop}
 use borrow.Author.Tests.{eqb-true, eqb-false, ne-eqb, lt-ltb, le-ltb}
-use Rattle.sets.specs.Expression.{AtomicExp, sym, avar, Exp, atm, evar, pair, nodes}
-use Rattle.sets.specs.Restriction.{sameAtomic}
-use Rattle.sets.specs.Contraction.{Contraction, identity, contra, bindE, bindA, nonEqual, mkBind}
-use Rattle.sets.specs.Intersection.{occurs, first, disagreement}
+use Rattle.expressions.specs.Expression.{AtomicExp, sym, avar, Exp, atm, evar, pair, nodes}
+use Rattle.expressions.specs.Restriction.{sameAtomic}
+use Rattle.expressions.specs.Contraction.{Contraction, identity, contra, bindE, bindA, nonEqual, mkBind}
+use Rattle.expressions.specs.Intersection.{occurs, first, disagreement}
 use Rattle.sets.specs.Cells.{pairCode, evarCode, avarCode, atomicCode, cells, part, treeEnd}
 use Rattle.sets.specs.Disagreeing.{commonFront, cellBefore, atomicPair, disagreeAt, disagreementCells}
 use Rattle.sets.specs.declared.difference.Disagreement.{Disagreement}
 use Rattle.sets.specs.declared.difference.Disagreement.the-variants.{Same, Apart, Leaf, Output, Wanted}
-use Rattle.sets.proofs.Tests.{eqb-same}
-use Rattle.sets.proofs.Simplification.{sameAtomic-eq}
-use Rattle.sets.proofs.Disagreement.{IsIdentity, disagreement-identity}
+use Rattle.expressions.proofs.Tests.{eqb-same}
+use Rattle.expressions.proofs.Simplification.{sameAtomic-eq}
+use Rattle.expressions.proofs.Disagreement.{IsIdentity, disagreement-identity}
 use Rattle.sets.proofs.CellLaws.{atomic-not-pair, atomic-not-evar, cells-nodes, Stands, stands-end, stands-part, stands-occurs}
 use Rattle.sets.proofs.ContractionLaws.{code-tag, atomicCode-same}
 use Rattle.sets.proofs.DisagreementTurns.{leftmost-at}

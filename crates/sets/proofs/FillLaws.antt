@@ -10,9 +10,9 @@ use lib.Dec.{eqb, ltb, leb}
 use lib.ListN.{length, take, drop, set, length-append, length-drop}
 use lib.Seq.{paste, paste-zero, take-length, take-take, take-at, drop-at, drop-drop, set-split, append-snoc, length-take-le}
 use borrow.Author.Tests.{ne-eqb, le-ltb, lt-leb, ltb-false, leb-false}
-use Rattle.sets.specs.Expression.{AtomicExp, sym, avar, Exp, atm, evar, pair, nodes, nodesAll}
-use Rattle.sets.specs.Substitution.{applyAtomic, apply, applyAll, substE, substA}
-use Rattle.sets.specs.Restriction.{Restriction, applyNonEquality, nodesRestriction}
+use Rattle.expressions.specs.Expression.{AtomicExp, sym, avar, Exp, atm, evar, pair, nodes, nodesAll}
+use Rattle.expressions.specs.Substitution.{applyAtomic, apply, applyAll, substE, substA}
+use Rattle.expressions.specs.Restriction.{Restriction, applyNonEquality, nodesRestriction}
 use Rattle.sets.specs.Cells.{pairCode, evarCode, avarCode, atomicCode, cells, cellsAll, restrictionCells, part, treeEnd}
 use Rattle.sets.specs.Fill.{FillAnswer, fillAnswer, fillTree, fillCell, fillOne, fillFrom, filled, spread, renamed}
 use Rattle.sets.specs.declared.fill.Filled.the-variants.{Done, Over}

@@ -8,24 +8,24 @@ use mathlib.Core.Option.{Option, none, some}
 use native.Mathlib.Omega.{arith}
 use lib.ListN.{length}
 use borrow.Author.Tests.{le-ltb, ltb-true, ltb-false, le-leb}
-use Rattle.sets.specs.Expression.{AtomicExp, Exp, nodes}
-use Rattle.sets.specs.Substitution.{substE, substA}
-use Rattle.sets.specs.Restriction.{Restriction, substRestriction}
-use Rattle.sets.specs.Contraction.{CRPair, Contraction, applyPair}
-use Rattle.sets.specs.Intersection.{meeting, disagreement, Intersected, common, disjoint, tooLarge, unlessOver, afterBinding, unifyStep, unify, bindingsEnough, intersect}
+use Rattle.expressions.specs.Expression.{AtomicExp, Exp, nodes}
+use Rattle.expressions.specs.Substitution.{substE, substA}
+use Rattle.expressions.specs.Restriction.{Restriction, substRestriction}
+use Rattle.expressions.specs.Contraction.{CRPair, Contraction, applyPair}
+use Rattle.expressions.specs.Intersection.{meeting, disagreement, Intersected, common, disjoint, tooLarge, unlessOver, afterBinding, unifyStep, unify, bindingsEnough, intersect}
 use Rattle.sets.specs.Cells.{evarCode, avarCode, atomicCode, cells, part}
 use Rattle.sets.specs.Fill.{renamed}
 use Rattle.sets.specs.Meeting.{nodesCells, sized, fillTrees, restrictedStep, bindLeaf, StepAnswer, treeStep, leafStep, unifyBy, unifyCells, MetAnswer, onStep, unifyMany, longEnough, intersectCells}
-use Rattle.sets.specs.Class.{IOClass}
+use Rattle.expressions.specs.Class.{IOClass}
 use Rattle.sets.specs.Restricting.{RestrictAnswer, bindCells}
 use Rattle.sets.specs.Disagreeing.{disagreementCells}
 use Rattle.sets.specs.declared.intersection.Class.{Class}
 use Rattle.sets.specs.declared.difference.Disagreement.{Disagreement}
 use Rattle.sets.specs.declared.intersection.Met.the-variants.{Common, Apart, Over}
 use Rattle.sets.specs.declared.intersection.Step.{Step}
-use Rattle.sets.proofs.Unification.{bound}
+use Rattle.expressions.proofs.Unification.{bound}
 use Rattle.sets.proofs.RestrictionLaws.{Answers, bindCells-means}
-use Rattle.sets.proofs.Disagreement.{IsIdentity, disagreement-identity}
+use Rattle.expressions.proofs.Disagreement.{IsIdentity, disagreement-identity}
 use Rattle.sets.proofs.ContractionLaws.{code-tag}
 use Rattle.sets.proofs.DisagreementLaws.{Coded, same, apart, leafE, leafA, output, wanted, disagreement-means}
 use Rattle.sets.proofs.IntersectionTurns.{intersect-over, intersect-start}

@@ -1,16 +1,3 @@
-pub mod Tests
-pub mod Filling
-pub mod Simplification
-pub mod KeptOrder
-pub mod Combination
-pub mod Contracting
-pub mod Numbering
-pub mod Splitting
-pub mod Variables
-pub mod Disagreement
-pub mod Unification
-pub mod Laws
-pub mod Cases
 pub mod Turns
 pub mod CellLaws
 pub mod FillLaws
@@ -24,5 +11,3 @@ pub mod DisagreementLaws
 pub mod ClassCells
 pub mod ClassFilling
 pub mod IntersectionLaws
-pub mod Predicates
-pub mod Numbers

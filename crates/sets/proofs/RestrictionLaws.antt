@@ -11,16 +11,16 @@ use lib.Dec.{eqb, leb}
 use lib.ListN.{length, take, drop, getD, set, length-append, length-take, length-drop, length-set, length-map, take-append-drop}
 use lib.Seq.{take-suc-set, drop-set-lt, take-at, drop-at}
 use borrow.Author.Tests.{lt-leb, leb-true}
-use Rattle.sets.specs.Expression.{AtomicExp, sym, avar}
-use Rattle.sets.specs.Substitution.{substA}
-use Rattle.sets.specs.Restriction.{NonEquality, Restriction, sameAtomic, sameNonEquality, stands, isSymbol, Kind, contradiction, redundant, kept, kind, keepOrDrop, simplifyAfter, simplify, add, applyNonEquality, substRestriction}
+use Rattle.expressions.specs.Expression.{AtomicExp, sym, avar}
+use Rattle.expressions.specs.Substitution.{substA}
+use Rattle.expressions.specs.Restriction.{NonEquality, Restriction, sameAtomic, sameNonEquality, stands, isSymbol, Kind, contradiction, redundant, kept, kind, keepOrDrop, simplifyAfter, simplify, add, applyNonEquality, substRestriction}
 use Rattle.sets.specs.Cells.{avarCode, atomicCode, restrictionCells}
 use Rattle.sets.specs.Fill.{renamed}
 use Rattle.sets.specs.Restricting.{RestrictAnswer, restrictAnswer, eitherOrder, standsCells, kindCells, appendCells, addKind, addCells, simplifyKind, simplifyFrom, simplifyCells, bindCells}
 use Rattle.sets.specs.declared.restriction.Kind.{Kind as CodedKind}
 use Rattle.sets.specs.declared.restriction.Kind.the-variants.{Contradiction as Contradictory, Redundant, Kept as Keep}
 use Rattle.sets.specs.declared.restriction.Restricted.the-variants.{Kept, Contradiction, Full}
-use Rattle.sets.proofs.Combination.{simplify-append}
+use Rattle.expressions.proofs.Combination.{simplify-append}
 use Rattle.sets.proofs.CellLaws.{restrictionCells-nodes}
 use Rattle.sets.proofs.FillLaws.{renamed-restriction}
 use Rattle.sets.proofs.ContractionLaws.{code-tag, atomicCode-same}

@@ -6,8 +6,8 @@ use mathlib.Core.List.{List, [], _∷_, _++_}
 use lib.Dec.{eqb, leb}
 use lib.ListN.{length, take, drop}
 use lib.Seq.{paste}
-use Rattle.sets.specs.Expression.{AtomicExp, sym, avar, Exp, atm, evar, pair}
-use Rattle.sets.specs.Restriction.{Restriction}
+use Rattle.expressions.specs.Expression.{AtomicExp, sym, avar, Exp, atm, evar, pair}
+use Rattle.expressions.specs.Restriction.{Restriction}
 
 -- A node is 4 n + tag: tag 0 a pair (4), 1 the symbol n, 2 the variable `?e` n, 3 the variable `?a` n. 0 is no node.
 abbrev pub pairCode : ℕ

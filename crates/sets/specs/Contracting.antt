@@ -2,8 +2,8 @@
 use Prim.Native.Nat.{ℕ, _+_, _*_, _/_, _%_}
 use mathlib.Core.Bool.{Bool, true, false, cond}
 use lib.Dec.{eqb}
-use Rattle.sets.specs.Expression.{AtomicExp, sym, avar, Exp, atm, evar, pair}
-use Rattle.sets.specs.Contraction.{Contraction, identity, contra, bindE, bindA, nonEqual}
+use Rattle.expressions.specs.Expression.{AtomicExp, sym, avar, Exp, atm, evar, pair}
+use Rattle.expressions.specs.Contraction.{Contraction, identity, contra, bindE, bindA, nonEqual}
 use Rattle.sets.specs.declared.counter.Fresh.{Fresh}
 use Rattle.sets.specs.declared.contraction.Contraction.{Contraction as Coded}
 use Rattle.sets.specs.declared.contraction.Contraction.the-variants.{Identity, Contradiction, Bind, BindPair, NonEqual}

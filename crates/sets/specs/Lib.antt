@@ -1,10 +1,3 @@
-pub mod Expression
-pub mod Substitution
-pub mod Restriction
-pub mod Contraction
-pub mod Class
-pub mod Split
-pub mod Intersection
 pub mod Cells
 pub mod Fill
 pub mod Counting

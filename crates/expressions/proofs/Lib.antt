@@ -1,0 +1,15 @@
+pub mod Tests
+pub mod Filling
+pub mod Simplification
+pub mod KeptOrder
+pub mod Combination
+pub mod Contracting
+pub mod Numbering
+pub mod Splitting
+pub mod Variables
+pub mod Disagreement
+pub mod Unification
+pub mod Laws
+pub mod Cases
+pub mod Predicates
+pub mod Numbers

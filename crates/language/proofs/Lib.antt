@@ -1,0 +1,6 @@
+pub mod Tests
+pub mod Acceptance
+pub mod Readings
+pub mod ReaderLaws
+pub mod TokenNumbers
+pub mod Numbers

@@ -1,0 +1,12 @@
+pub mod Program
+pub mod Scope
+pub mod WellFormed
+pub mod Bytes
+pub mod Words
+pub mod Tokens
+pub mod Source
+pub mod Reader
+pub mod Grammar
+pub mod ProgramCheck
+pub mod JobCheck
+pub mod Reading

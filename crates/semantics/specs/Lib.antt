@@ -1,0 +1,15 @@
+pub mod Lists
+pub mod Environment
+pub mod Figure4
+pub mod Evaluate
+pub mod Configuration
+pub mod Figure10
+pub mod Trace
+pub mod Tree
+pub mod Walk
+pub mod Backtrack
+pub mod Runner
+pub mod Answer
+pub mod Demand2
+pub mod Demand3
+pub mod Embedding
