@@ -1,7 +1,7 @@
 -- Values as expressions, and what tracing makes of a state without variables: one successor, the step of figure 4.
 -- proofs/Forward.antt proves it of every program and state.
 use Prim.Native.Nat.{ℕ}
-use mathlib.Core.List.{List, [], _∷_}
+use mathlib.Core.List.{[]}
 use mathlib.Core.Option.{none, some}
 use Rattle.expressions.specs.Expression.{Value, atom, cons, sym, Exp, atm, pair}
 use Rattle.expressions.specs.Class.{IOPair}
@@ -15,10 +15,6 @@ use Rattle.semantics.specs.Trace.{Successors, terminal, called, branches
 abbrev pub embed : Value → Exp
 embed (atom z) = atm (sym z)
 embed (cons u v) = pair (embed u) (embed v)
-
-abbrev pub embedAll : List Value → List Exp
-embedAll [] = []
-embedAll (v ∷ vs) = embed v ∷ embedAll vs
 
 abbrev pub embedEnv : ValueEnv → ExpEnv
 embedEnv σ = record { evars = mapValues embed (σ .evars); avars = mapValues sym (σ .avars) }

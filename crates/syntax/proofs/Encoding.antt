@@ -90,3 +90,11 @@ decoded t h =
   where
     made : (t : Token) (m : ℕ) → m % 32 ≡ t .key → kindAt (kindTag m) ≡ t .kind → fitAt (fitTag m) ≡ t .fit → overMark m ≡ t .over → decode m (t .num) (t .at) ≡ t
     made t m a b c d = rw (a, b, c, d)
+
+-- so that a mark tells the key and the kind
+pub marked : (t : Token) → t .key < 32 → (markOf t % 32 ≡ t .key) × (markOf t / 32 % 8 ≡ tag (t .kind))
+unfolding markOf
+marked t h =
+    let q = tag-most (t .kind) in
+    let r = fit-most (t .fit) in
+    (low (t .key) (tag (t .kind)) (fitNumber (t .fit)) (overNumber (t .over)) h (omega arith) (omega arith), middle (t .key) (tag (t .kind)) (fitNumber (t .fit)) (overNumber (t .over)) h (omega arith) (omega arith))

@@ -28,22 +28,22 @@ abbrev pub Unbracketed : (ℕ → Token) → Type 0
 Unbracketed tok = (i : ℕ) → tok i .fit ≡ fits → (opens (λ j. tok j .key) i ≡ false) × (closes (λ j. tok j .key) i ≡ false)
 
 module _ (tok : ℕ → Token) (n : ℕ) (names : Unbracketed tok) where
-  abbrev from : ℕ → ℕ → ℕ → ℕ
+  abbrev pub from : ℕ → ℕ → ℕ → ℕ
   from f d i = closeFrom (λ j. tok j .key) f d i
 
   -- behind the part: at no depth it is passed
-  abbrev after : ℕ → ℕ → ℕ → ℕ
+  abbrev pub after : ℕ → ℕ → ℕ → ℕ
   after zero r k = k
   after (suc d) r k = from r (suc d) k
 
   key-is : (w : String) (i : ℕ) → WordAt tok n w i → tok i .key ≡ keyOf (txt w)
   key-is w i x = eqb-true (tok i .key) (keyOf (txt w)) (x .key)
 
-  open-step : (w : String) (r d i : ℕ) → WordAt tok n w i → (eqb (keyOf (txt w)) 1 || eqb (keyOf (txt w)) 3) ≡ true → from (suc r) d i ≡ from r (d + 1) (i + 1)
+  pub open-step : (w : String) (r d i : ℕ) → WordAt tok n w i → (eqb (keyOf (txt w)) 1 || eqb (keyOf (txt w)) 3) ≡ true → from (suc r) d i ≡ from r (d + 1) (i + 1)
   unfolding closeFrom
   open-step w r d i x e = rw (key-is w i x, e)
 
-  word-step : (w : String) (r d i : ℕ) → WordAt tok n w i → (eqb (keyOf (txt w)) 1 || eqb (keyOf (txt w)) 3) ≡ false → (eqb (keyOf (txt w)) 2 || eqb (keyOf (txt w)) 4) ≡ false → from (suc r) d i ≡ from r d (i + 1)
+  pub word-step : (w : String) (r d i : ℕ) → WordAt tok n w i → (eqb (keyOf (txt w)) 1 || eqb (keyOf (txt w)) 3) ≡ false → (eqb (keyOf (txt w)) 2 || eqb (keyOf (txt w)) 4) ≡ false → from (suc r) d i ≡ from r d (i + 1)
   unfolding closeFrom
   word-step w r d i x e f = rw (key-is w i x, e, f)
 
@@ -51,12 +51,12 @@ module _ (tok : ℕ → Token) (n : ℕ) (names : Unbracketed tok) where
   unfolding closeFrom
   name-step k r d i x = let w = names i (x .fit) in rw (w .0, w .1)
 
-  close-step : (w : String) (r d i : ℕ) → WordAt tok n w i → (eqb (keyOf (txt w)) 1 || eqb (keyOf (txt w)) 3) ≡ false → (eqb (keyOf (txt w)) 2 || eqb (keyOf (txt w)) 4) ≡ true → from (suc r) (suc d) i ≡ after d r (i + 1)
+  pub close-step : (w : String) (r d i : ℕ) → WordAt tok n w i → (eqb (keyOf (txt w)) 1 || eqb (keyOf (txt w)) 3) ≡ false → (eqb (keyOf (txt w)) 2 || eqb (keyOf (txt w)) 4) ≡ true → from (suc r) (suc d) i ≡ after d r (i + 1)
   unfolding closeFrom
   close-step w r zero i x e f = rw (key-is w i x, e, f)
   close-step w r (suc d) i x e f = let z : suc (suc d) - 1 ≡ suc d = omega arith in let y : 1 < suc (suc d) = omega arith in rw (key-is w i x, e, f, lt-leb (suc (suc d)) 1 y, z)
 
-  exp-least : {text : Text} {i : ℕ} {c : Exp} {k : ℕ} → ExpIn tok n text i c k → i < k
+  pub exp-least : {text : Text} {i : ℕ} {c : Exp} {k : ℕ} → ExpIn tok n text i c k → i < k
   exp-least (symbolIn b x) = omega arith
   exp-least (placed.ExpIn.eIn b x) = omega arith
   exp-least (placed.ExpIn.aIn b x) = omega arith
@@ -70,7 +70,7 @@ module _ (tok : ℕ → Token) (n : ℕ) (names : Unbracketed tok) where
       let z : k + 1 - i + r ≡ suc (suc (j - (i + 2) + (k - j + suc r))) = omega arith in
       rw (z, open-step "(" _ d i o refl, word-step w _ (d + 1) (i + 1) y p q, add-assoc i 1 1, add-one d, f (k - j + suc r) d, g (suc r) d, close-step ")" r d k e refl refl)
 
-  exp-through : {text : Text} {i : ℕ} {c : Exp} {k : ℕ} → ExpIn tok n text i c k → (r d : ℕ) → from (k - i + r) (suc d) i ≡ from r (suc d) k
+  pub exp-through : {text : Text} {i : ℕ} {c : Exp} {k : ℕ} → ExpIn tok n text i c k → (r d : ℕ) → from (k - i + r) (suc d) i ≡ from r (suc d) k
   exp-through {i} (symbolIn b x) r d = let z : i + 1 - i + r ≡ suc r = omega arith in rw z (name-step _ r (suc d) i x)
   exp-through {i} (placed.ExpIn.eIn b x) r d = let z : i + 1 - i + r ≡ suc r = omega arith in rw z (name-step _ r (suc d) i x)
   exp-through {i} (placed.ExpIn.aIn b x) r d = let z : i + 1 - i + r ≡ suc r = omega arith in rw z (name-step _ r (suc d) i x)
@@ -154,10 +154,10 @@ module _ (tok : ℕ → Token) (n : ℕ) (names : Unbracketed tok) where
   term-through (ifIn o w q s u c) r d = if-past o w q (term-least s) (term-least u) (λ r d. term-through s r d) (λ r d. term-through u r d) c r (suc d)
   term-through (resultIn x) r d = exp-through x r d
 
-  abbrev past : ℕ → ℕ
+  abbrev pub past : ℕ → ℕ
   past i = pastAt (λ j. tok j .key) n i
 
-  whole : (i k : ℕ) → i < k → k ≤ n → is "(" (tok i) ≡ true → ((r d : ℕ) → from (k - i + r) d i ≡ after d r k) → past i ≡ k
+  pub whole : (i k : ℕ) → i < k → k ≤ n → is "(" (tok i) ≡ true → ((r d : ℕ) → from (k - i + r) d i ≡ after d r k) → past i ≡ k
   whole i k l m o f = let z : n - i ≡ k - i + (n - k) = omega arith in let y : i < n = omega arith in rw (lt-leb n i y, o, z) (f (n - k) 0)
 
   -- the index past an expression, a condition, a term

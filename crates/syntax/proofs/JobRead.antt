@@ -38,7 +38,8 @@ use Rattle.syntax.proofs.StoredCheck as storedCheck
 use Rattle.syntax.proofs.TableMeaning.{Holds}
 use Rattle.syntax.proofs.LexedMeaning.{Leaves}
 use Rattle.syntax.proofs.TokenCells.{InCell}
-use Rattle.syntax.proofs.TextStored.{lexed, job-read, job-ends, size, symbols-whole, held-same, held-alike}
+use Rattle.syntax.proofs.CutLengths.{cut-lengths}
+use Rattle.syntax.proofs.TextStored.{lexed, token-most, job-read, job-ends, size, symbols-whole, held-same, held-alike}
 use Rattle.syntax.proofs.NumeralTokens.{numeral-again}
 use Rattle.syntax.proofs.ReadAnswers.{text-refused, text-judged, text-answer, text-accepted}
 
@@ -87,6 +88,8 @@ pub record JobStored (first text : List ℕ) (zs : List Word) (s : State) (j : S
   pub few : length (symbolsOf zs text) ≤ 1024
   pub fixed : Fixed (λ i. stored.tokenAt (s .marks) (s .nums) (s .ats) (s .i) i)
   pub unbracketed : Unbracketed (λ i. stored.tokenAt (s .marks) (s .nums) (s .ats) (s .i) i)
+  pub most : s .i ≤ 4097
+  pub long : 4097 ≤ length (s .marks)
 
 -- the check over the cells of a job, and of the program p before it
 module _ (first text : List ℕ) (zs : List Word) (s : State) (j : SJob) (h : JobStored first text zs s j) where
@@ -170,6 +173,8 @@ module _ (first text marks nums ats symbols names : List ℕ) (zs : List Word) (
         few = subst (λ (ws : List Word). length ws ≤ 1024) whole (left .few);
         fixed = fixed-alike _ _ alikes (all-fixed ofJob zs text);
         unbracketed = unbracketed-alike _ _ alikes (all-unbracketed ofJob zs text);
+        most = token-most first text Any ofJob zs cutJob start refl left;
+        long = omega (arith, cut-lengths true first text 4097 start .marks);
       }
 
   -- p is the program before it, in the cells of main, mnums and mats

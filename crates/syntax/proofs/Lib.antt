@@ -38,9 +38,11 @@ pub mod TextStored
 pub mod NumeralLaws
 pub mod NumeralTokens
 pub mod ReadAnswers
+pub mod SymbolBounds
+pub mod CutLengths
 pub mod ProgramRead
 pub mod JobRead
+pub mod PartLaws
 pub mod JobParts
-pub mod CutLengths
 pub mod ReadLaws
 pub mod Reading

@@ -1,5 +1,5 @@
 -- A program's text, cut and read over its cells: what the readers and the check over the cells answer is what reading the text comes to.
-use Prim.Native.Nat.{ℕ, _+_, _*_, _≤_, _<_}
+use Prim.Native.Nat.{ℕ, _+_, _*_, _/_, _%_, _≤_, _<_}
 use mathlib.Core.Path.{_≡_, refl, ap, subst, _∙_, fun-ext, sym}
 use mathlib.Core.Bool.{false}
 use mathlib.Core.List.{List, []}
@@ -7,7 +7,7 @@ use native.Mathlib.Omega.{arith}
 use lib.ListN.{length, getD}
 use borrow.Author.Tests.{lt-ltb}
 use Rattle.language.specs.Words.{Word}
-use Rattle.language.specs.Tokens.{Kind, symbol, ename, aname, evariable, avariable, plain, ofProgram, symbolsOf, Token, tokens}
+use Rattle.language.specs.Tokens.{Kind, symbol, ename, aname, evariable, avariable, plain, tag, ofProgram, symbolsOf, Token, tokens}
 use Rattle.language.specs.Reader.{ok, refuse}
 use Rattle.language.specs.Source.{SProg}
 use Rattle.language.specs.Grammar.{program}
@@ -30,7 +30,9 @@ use Rattle.syntax.proofs.StoredCheck as storedCheck
 use Rattle.syntax.proofs.TableMeaning.{Holds, holds-none}
 use Rattle.syntax.proofs.LexedMeaning.{Leaves}
 use Rattle.syntax.proofs.TokenCells.{InCell}
-use Rattle.syntax.proofs.TextStored.{lexed, program-read, program-ends, size, symbols-whole, held-same}
+use Rattle.syntax.proofs.SymbolBounds.{symbol-few}
+use Rattle.syntax.proofs.CutLengths.{cut-lengths}
+use Rattle.syntax.proofs.TextStored.{lexed, token-most, mark-held, program-read, program-ends, size, symbols-whole, held-same}
 use Rattle.syntax.proofs.ReadAnswers.{text-refused, text-judged, text-answer, text-accepted}
 
 -- an offset in the program's text, which the table tells from those in the job's
@@ -64,6 +66,10 @@ pub record ProgramStored (text : List ℕ) (s : State) (p : SProg) : Type 0 wher
   pub room : 2048 ≤ length (s .symbols)
   pub fixed : Fixed (λ i. stored.tokenAt (s .marks) (s .nums) (s .ats) (s .i) i)
   pub unbracketed : Unbracketed (λ i. stored.tokenAt (s .marks) (s .nums) (s .ats) (s .i) i)
+  pub most : s .i ≤ 4097
+  pub long : 4097 ≤ length (s .marks)
+  pub marked : (i : ℕ) → i < s .i → let t = stored.tokenAt (s .marks) (s .nums) (s .ats) (s .i) i in (getD (s .marks) i 0 % 32 ≡ t .key) × (getD (s .marks) i 0 / 32 % 8 ≡ tag (t .kind))
+  pub coded : (i : ℕ) → let t = stored.tokenAt (s .marks) (s .nums) (s .ats) (s .i) i in tag (t .kind) ≡ 0 → t .num ≤ 1024
 
 module _ (text marks nums ats symbols names : List ℕ) (marksRoom : 4097 ≤ length marks) (numsRoom : 4097 ≤ length nums) (atsRoom : 4097 ≤ length ats)
     (symbolsRoom : 2048 ≤ length symbols) (namesRoom : 8194 ≤ length names) where
@@ -95,16 +101,28 @@ module _ (text marks nums ats symbols names : List ℕ) (marksRoom : 4097 ≤ le
       whole : left .words ≡ symbolsOf [] text
       whole = symbols-whole text text Low ofProgram [] cutProgram start refl left end
 
+      few-symbols : length (symbolsOf [] text) ≤ 1024
+      few-symbols = subst (λ (ws : List Word). length ws ≤ 1024) whole (left .few)
+
+      small : (i : ℕ) → tag (stored.tokenAt (cutProgram .marks) (cutProgram .nums) (cutProgram .ats) (cutProgram .i) i .kind) ≡ 0 → stored.tokenAt (cutProgram .marks) (cutProgram .nums) (cutProgram .ats) (cutProgram .i) i .num ≤ 1024
+      small i e =
+          let k : tag (tokenAt ts i .kind) ≡ 0 = ap (λ t. tag (t .kind)) (sym (same i)) ∙ e in
+          omega (arith, symbol-few ofProgram [] text i k, ap (λ t. t .num) (same i), few-symbols)
+
       -- a program that is read stands whole in the cells
       pub program-stored : ProgramStored text cutProgram p
       program-stored = record {
         holds = record { ts = ts; rest = rest; size = size text text Low ofProgram [] cutProgram start refl left end; same = same; read = e };
         symbols = λ second. subst (Holds text second (cutProgram .symbols)) whole (holds-any text text second (cutProgram .symbols) (left .words) (left .placed) (left .symbols));
         found = left .found ∙ ap length whole;
-        few = subst (λ (ws : List Word). length ws ≤ 1024) whole (left .few);
+        few = few-symbols;
         room = left .room;
         fixed = subst Fixed (sym (fun-ext same)) (all-fixed ofProgram [] text);
         unbracketed = subst Unbracketed (sym (fun-ext same)) (all-unbracketed ofProgram [] text);
+        most = token-most text text Low ofProgram [] cutProgram start refl left;
+        long = omega (arith, cut-lengths false text text 4097 start .marks);
+        marked = λ i l. let m = mark-held text text Low ofProgram [] cutProgram start refl left i l in (m .0 ∙ sym (ap (λ t. t .key) (same i)), m .1 ∙ sym (ap (λ t. tag (t .kind)) (same i)));
+        coded = small;
       }
 
       pub program-checked : check.programAt (cutProgram .marks) (cutProgram .nums) (cutProgram .ats) (cutProgram .i) ≡ coded (programVerdict p)

@@ -1,6 +1,6 @@
 -- The check of stored tokens: where the cells hold the tokens of a text that was read as a program, the code's check finds what the
 -- check of that program finds (`stored-checked`), and its table holds the program's definitions (`stored-definitions`).
-use Prim.Native.Nat.{ℕ, zero, suc, _/_, _%_, _<_}
+use Prim.Native.Nat.{ℕ, zero, suc, _/_, _%_, _<_, _≤_}
 use mathlib.Core.Path.{_≡_, refl, ap, subst, _∙_, fun-ext, sym as inv}
 use mathlib.Core.Bool.{Bool, true, false, cond}
 use mathlib.Core.List.{List}
@@ -15,7 +15,7 @@ use Rattle.syntax.specs.Stored.{kindAt, kindTag, markAt, offsetAt, decod
 use Rattle.syntax.specs.Stored as stored
 use Rattle.syntax.specs.Positions.{nothing}
 use Rattle.syntax.specs.StoredAt.{keyAt, tagAt, numAt, atAt}
-use Rattle.syntax.specs.Standing.{ProgramAt}
+use Rattle.syntax.specs.Standing.{ProgramAt, HeadsAt}
 use Rattle.syntax.specs.Placed.{DefsIn}
 use Rattle.syntax.specs.CheckStored.{programAt, defsAt}
 use Rattle.syntax.specs.CheckAt as at
@@ -91,3 +91,9 @@ module _ (marks nums′ ats′ : List ℕ) (n : ℕ) where
 
   pub stored-count : (s : SProg) → Holds s → defsAt marks nums′ ats′ n 64 noDefs .count ≡ length (defs s)
   stored-count s h = ap (λ ds. ds .count) defs-view ∙ program-table tok n s (held-stands s h) .count
+
+  pub stored-heads : (s : SProg) → Holds s → HeadsAt tok n (defsAt marks nums′ ats′ n 64 noDefs .heads) 0 (defs s)
+  stored-heads s h = subst (λ (ds : Defs). HeadsAt tok n (ds .heads) 0 (defs s)) (inv defs-view) (program-table tok n s (held-stands s h) .heads)
+
+  pub stored-few : (s : SProg) → Holds s → length (defs s) ≤ 64
+  stored-few s h = let l = held-stands s h .few in omega arith

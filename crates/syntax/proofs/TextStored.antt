@@ -1,6 +1,6 @@
 -- What the cells hold of a text that was cut: the readers over the cells answer as the grammar does over the text's tokens, and where they
 -- refuse nothing the cells are those of all the tokens.
-use Prim.Native.Nat.{ℕ, suc, _+_, _*_, _≤_, _<_}
+use Prim.Native.Nat.{ℕ, suc, _+_, _*_, _/_, _%_, _≤_, _<_}
 use mathlib.Core.Path.{_≡_, refl, ap, _∙_, sym}
 use mathlib.Core.Bool.{Bool, true, false, cond, true≢false}
 use mathlib.Core.List.{List, []}
@@ -11,7 +11,7 @@ use lib.Dec.{eqb, ltb}
 use lib.ListN.{length, getD, List·getD-eq-default}
 use borrow.Author.Tests.{eqb-true, ltb-true, ltb-false, lt-ltb, le-ltb}
 use Rattle.language.specs.Words.{Word, Fit, fits, broken, long, many}
-use Rattle.language.specs.Tokens.{cut, Text, symbolsOf, namesOf, Token, tokens}
+use Rattle.language.specs.Tokens.{cut, tag, Text, symbolsOf, namesOf, Token, tokens}
 use Rattle.language.specs.Reader.{ok}
 use Rattle.language.specs.Source.{SProg, SJob}
 use Rattle.language.specs.Grammar.{program, jobText}
@@ -24,7 +24,7 @@ use Rattle.syntax.specs.Cutting.{wordAt}
 use Rattle.syntax.specs.Judged.{textOf}
 use Rattle.syntax.specs.Table.{wordIn}
 use Rattle.syntax.specs.Lexed.{shifted, shutAt, shuts, State, starting, cutFrom}
-use Rattle.syntax.proofs.Encoding.{decoded}
+use Rattle.syntax.proofs.Encoding.{decoded, marked}
 use Rattle.syntax.proofs.TableMeaning.{Holds, holds-none}
 use Rattle.syntax.proofs.Tracks.{gotOf, tokenAt}
 use Rattle.syntax.proofs.GrammarTracks.{program-tracks, job-tracks}
@@ -103,6 +103,13 @@ module _ (first text : List ℕ) (P : ℕ → Type 0) (t : Text) (zs : List Word
 
   key-small : (i : ℕ) → tokenAt ts i .key < 32
   key-small i = omega (arith, key-known t zs text i)
+
+  -- at most 4,097 marks are stored, each of which tells its token's key and kind
+  pub token-most : f .i ≤ 4097
+  token-most = let c = left .count in let m = left .most in omega arith
+
+  pub mark-held : (i : ℕ) → i < f .i → (getD (f .marks) i 0 % 32 ≡ tokenAt ts i .key) × (getD (f .marks) i 0 / 32 % 8 ≡ tag (tokenAt ts i .kind))
+  mark-held i l = let c = left .count in rw (mark-at i 0 (omega arith)) (marked (tokenAt ts i) (key-small i))
 
   alike : (i : ℕ) → i ≤ left .last → Alike (tokenAt ts i) (seen (f .marks) (f .ats) i)
   alike i l = rw (mark-at i 1458 l, offset-at i 0 l) (alike-cells (tokenAt ts i) (key-small i))

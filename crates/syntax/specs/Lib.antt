@@ -15,3 +15,4 @@ pub mod JobStored
 pub mod ReadAnswer
 pub mod ReadCells
 pub mod Heads
+pub mod PartEnds

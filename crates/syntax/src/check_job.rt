@@ -242,7 +242,7 @@ fn sides(
 }
 
 // A numeral of the text from `i` on, `left` digits at most; `v` is what the digits before come to.
-fn numeral(text: &[u8], left: usize, i: usize, v: usize) -> usize
+pub(crate) fn numeral(text: &[u8], left: usize, i: usize, v: usize) -> usize
     ensures { λ r. ⌜ r ≡ numeralFrom (now (text .entry)) left i v ⌝ }
 {
     if left == 0 {

@@ -1,0 +1,15 @@
+pub mod Storing
+pub mod EnvironmentCells
+pub mod ValueCells
+pub mod ArgumentCells
+pub mod ContractionCells
+pub mod ConfigurationCells
+pub mod ContractCells
+pub mod LookCells
+pub mod CallCells
+pub mod TransitionCells
+pub mod ContradictionCells
+pub mod BranchCells
+pub mod LateCells
+pub mod DatumCells
+pub mod StartCells
