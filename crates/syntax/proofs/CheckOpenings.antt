@@ -11,7 +11,7 @@ use Rattle.syntax.specs.declared.check.Verdict.{Verdict}
 use Rattle.syntax.specs.declared.check.Verdict.the-variants.{Fine, Fault}
 use Rattle.syntax.specs.declared.check.Names.{Names}
 use Rattle.syntax.specs.declared.check.Defs.{Defs}
-use Rattle.syntax.specs.Stored.{cellOf}
+use Rattle.lexer.specs.Marks.{cellOf}
 use Rattle.syntax.specs.JobCheckAt.{datumLeaf, datumPair, datumAt, inputAt, inputsAt, standsFrom, twoSides, sidesAt}
 use Rattle.syntax.specs.JobStored.{numeralFrom}
 use Rattle.syntax.specs.Heads.{headsFrom}

@@ -20,7 +20,7 @@ use Rattle.language.specs.Program.{Condition, Term}
 use Rattle.syntax.specs.Standing.{WordAt, NameAt}
 use Rattle.syntax.specs.Placed.{ExpIn, symbolIn, consIn, ExpsIn, ConditionIn, eqaIn, conspIn, TermIn, callIn, ifIn, resultIn}
 use Rattle.syntax.specs.Placed as placed
-use Rattle.syntax.specs.Stored.{cellOf}
+use Rattle.lexer.specs.Marks.{cellOf}
 use Rattle.syntax.specs.Ends.{opens, closes, closeFrom, pastAt, endsFrom}
 
 -- a word that fits as a name is no bracket

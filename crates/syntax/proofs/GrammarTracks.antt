@@ -13,8 +13,8 @@ use Rattle.syntax.proofs.Advances.{Advances, fewer, give-advances, bind
 use Rattle.language.specs.Source.{Stand, SExp, symS, evarS, avarS, pairS, SCondition, eqaS, conspS, STerm, callS, conditionalS, resultS, SParam, SDef, SProg, SJob}
 use Rattle.language.specs.Grammar.{standing, word, orWord, leaf, leafD, consAt, tree, expr, datum, args, condition, form, term, parameter, parameters, definition, isEnd, definitions, program, sides, part, jobText}
 use Rattle.syntax.proofs.GrammarAdvances.{takes, word-advances, tree-advances, leaf-advances, leafD-advances, expr-advances, datum-advances, args-advances, condition-advances, term-advances, cons-advances, parameter-advances, parameters-advances, definition-advances, definitions-advances, sides-advances, part-advances}
-use Rattle.syntax.specs.declared.got.Got.{Got}
-use Rattle.syntax.specs.declared.got.Got.the-variants.{Past}
+use Rattle.lexer.specs.declared.got.Got.{Got}
+use Rattle.lexer.specs.declared.got.Got.the-variants.{Past}
 use Rattle.syntax.specs.Positions.{nothing, takeP, seqP, wrongP, chooseP, upToP}
 use Rattle.syntax.specs.Positions as at
 use Rattle.syntax.proofs.Tracks.{tokenAt, Tracks, give-tracks, wrong-tracks, take-tracks, choose-tracks, bind-tracks, then-tracks, last-tracks, upTo-tracks}

@@ -15,7 +15,7 @@ use Rattle.language.specs.Source.{SExp, symS, evarS, avarS, pairS, SJob}
 use Rattle.language.specs.Grammar.{standing}
 use Rattle.syntax.specs.Stored as stored
 use Rattle.syntax.specs.JobStored.{valAt}
-use Rattle.syntax.specs.Lexed.{State}
+use Rattle.lexer.specs.Lexed.{State}
 use Rattle.syntax.specs.StoredAt.{keyAt}
 use Rattle.syntax.specs.PartEnds.{partEnds, jobNumerals}
 use Rattle.syntax.specs.declared.numerals.Numerals.{Numerals}

@@ -15,7 +15,7 @@ use Rattle.language.specs.Source.{SDef, SProg, SJob, params}
 use Rattle.language.specs.Grammar.{jobText}
 use Rattle.language.specs.JobCheck.{Tool, jobVerdict}
 use Rattle.language.specs.Reading.{readJob}
-use Rattle.syntax.specs.declared.got.Got.the-variants.{Past, Refused}
+use Rattle.lexer.specs.declared.got.Got.the-variants.{Past, Refused}
 use Rattle.syntax.specs.Positions.{onPast}
 use Rattle.syntax.specs.Stored as stored
 use Rattle.syntax.specs.StoredAt.{keyAt, tagAt, numAt, atAt}
@@ -23,9 +23,9 @@ use Rattle.syntax.specs.JobStored as check
 use Rattle.syntax.specs.JobStored.{numeralFrom, valAt}
 use Rattle.syntax.specs.JobCheckAt as at
 use Rattle.syntax.specs.Standing.{ParamsAt, DefAt, defineAt, ProgramAt, JobAt}
-use Rattle.syntax.specs.Cutting.{bytesAt, wordAt}
-use Rattle.syntax.specs.Table.{wordOn, wordIn}
-use Rattle.syntax.specs.Lexed.{shifted, State, starting, cutFrom}
+use Rattle.lexer.specs.Cutting.{bytesAt, wordAt}
+use Rattle.lexer.specs.Table.{wordOn, wordIn}
+use Rattle.lexer.specs.Lexed.{shifted, State, starting, cutFrom}
 use Rattle.syntax.specs.ReadAnswer.{verdictGot, jobAnswer, resGot}
 use Rattle.syntax.proofs.Tracks.{gotOf, tokenAt}
 use Rattle.syntax.proofs.Shut.{Alike}
@@ -35,10 +35,10 @@ use Rattle.syntax.proofs.JobStanding.{job-stands}
 use Rattle.syntax.proofs.EndsLaws.{Unbracketed}
 use Rattle.syntax.proofs.TokenLaws.{all-fixed, all-unbracketed}
 use Rattle.syntax.proofs.StoredCheck as storedCheck
-use Rattle.syntax.proofs.TableMeaning.{Holds}
+use Rattle.lexer.proofs.TableMeaning.{Holds}
 use Rattle.syntax.proofs.LexedMeaning.{Leaves}
 use Rattle.syntax.proofs.TokenCells.{InCell}
-use Rattle.syntax.proofs.CutLengths.{cut-lengths}
+use Rattle.lexer.proofs.CutLengths.{cut-lengths}
 use Rattle.syntax.proofs.TextStored.{lexed, token-most, job-read, job-ends, size, symbols-whole, held-same, held-alike}
 use Rattle.syntax.proofs.NumeralTokens.{numeral-again}
 use Rattle.syntax.proofs.ReadAnswers.{text-refused, text-judged, text-answer, text-accepted}

@@ -13,16 +13,16 @@ use borrow.Author.Tests.{ltb-true, ltb-false}
 use Rattle.language.specs.Words.{Word}
 use Rattle.language.specs.Tokens.{Piece, keyOf, firsts, isSymbol, isAmong, Token, tokensFrom}
 use Rattle.syntax.specs.Positions.{nothing}
-use Rattle.syntax.specs.Stored.{markOf, cellOf}
-use Rattle.syntax.specs.Cutting.{startAt, pieceEnd, wordAt}
-use Rattle.syntax.specs.Judged.{textOf}
-use Rattle.syntax.specs.Table.{wordIn, entered}
-use Rattle.syntax.specs.Lexed.{shifted, enteredIf, State, stored, passed, cutFrom, shuts}
-use Rattle.syntax.specs.declared.lexer.Token.{Token as Made}
-use Rattle.syntax.proofs.CutByIndex.{start-most, end-most, end-ahead, cut-some}
-use Rattle.syntax.proofs.LexedLaws.{nextIn, cut-shut, cut-on}
-use Rattle.syntax.proofs.TableMeaning.{Holds}
-use Rattle.syntax.proofs.LexedStep.{isOther, First, first-piece, Follows, tok, makes, below, symbols-below, follows}
+use Rattle.lexer.specs.Marks.{markOf, cellOf}
+use Rattle.lexer.specs.Cutting.{startAt, pieceEnd, wordAt}
+use Rattle.lexer.specs.Judged.{textOf}
+use Rattle.lexer.specs.Table.{wordIn, entered}
+use Rattle.lexer.specs.Lexed.{shifted, enteredIf, State, stored, passed, cutFrom, shuts}
+use Rattle.lexer.specs.declared.lexer.Token.{Token as Made}
+use Rattle.lexer.proofs.CutByIndex.{start-most, end-most, end-ahead, cut-some}
+use Rattle.lexer.proofs.LexedLaws.{nextIn, cut-shut, cut-on}
+use Rattle.lexer.proofs.TableMeaning.{Holds}
+use Rattle.lexer.proofs.LexedStep.{isOther, First, first-piece, Follows, tok, makes, below, symbols-below, follows}
 
 -- l is l₀ but for the cells from i on, which are those of the tokens ts up to the one at j
 pub record Cells (l l₀ : List ℕ) (i : ℕ) (cell : Token → ℕ) (ts : List Token) (j : ℕ) : Type 0 where

@@ -12,11 +12,11 @@ use Rattle.language.specs.Words.{Word, fits, numeralFit, value}
 use Rattle.language.specs.Tokens.{Piece, cut, Kind, symbol, ename, aname, evariable, avariable, plain, sameKind, kindOf, ofJob, fitOf, numOf, fitting, symbolsOf, namesOf, Token, token, tokensFrom, tokens}
 use Rattle.language.specs.Reader.{isA}
 use Rattle.syntax.specs.Positions.{nothing}
-use Rattle.syntax.specs.Cutting.{startAt, pieceEnd, wordAt}
+use Rattle.lexer.specs.Cutting.{startAt, pieceEnd, wordAt}
 use Rattle.syntax.specs.JobStored.{numeralFrom}
 use Rattle.syntax.proofs.Tracks.{tokenAt}
-use Rattle.syntax.proofs.CutByIndex.{start-most, end-most}
-use Rattle.syntax.proofs.LexedStep.{first-piece}
+use Rattle.lexer.proofs.CutByIndex.{start-most, end-most}
+use Rattle.lexer.proofs.LexedStep.{first-piece}
 use Rattle.syntax.proofs.NumeralLaws.{numeral-read}
 
 pub plain-kind : (k : Kind) → sameKind k plain ≡ true → k ≡ plain

@@ -13,13 +13,13 @@ use Rattle.language.specs.Source.{SProg}
 use Rattle.language.specs.Grammar.{program}
 use Rattle.language.specs.ProgramCheck.{programVerdict}
 use Rattle.language.specs.Reading.{readProgram}
-use Rattle.syntax.specs.declared.got.Got.the-variants.{Past, Refused}
+use Rattle.lexer.specs.declared.got.Got.the-variants.{Past, Refused}
 use Rattle.syntax.specs.Positions.{onPast}
 use Rattle.syntax.specs.Stored as stored
 use Rattle.syntax.specs.CheckStored as check
-use Rattle.syntax.specs.Cutting.{bytesAt, wordAt}
-use Rattle.syntax.specs.Table.{wordOn, wordIn}
-use Rattle.syntax.specs.Lexed.{State, starting, cutFrom}
+use Rattle.lexer.specs.Cutting.{bytesAt, wordAt}
+use Rattle.lexer.specs.Table.{wordOn, wordIn}
+use Rattle.lexer.specs.Lexed.{State, starting, cutFrom}
 use Rattle.syntax.specs.ReadAnswer.{verdictGot, programAnswer, resGot}
 use Rattle.syntax.proofs.Tracks.{gotOf, tokenAt}
 use Rattle.syntax.proofs.CheckLaws.{coded}
@@ -27,11 +27,11 @@ use Rattle.syntax.proofs.JobLaws.{Fixed}
 use Rattle.syntax.proofs.EndsLaws.{Unbracketed}
 use Rattle.syntax.proofs.TokenLaws.{all-fixed, all-unbracketed}
 use Rattle.syntax.proofs.StoredCheck as storedCheck
-use Rattle.syntax.proofs.TableMeaning.{Holds, holds-none}
+use Rattle.lexer.proofs.TableMeaning.{Holds, holds-none}
 use Rattle.syntax.proofs.LexedMeaning.{Leaves}
 use Rattle.syntax.proofs.TokenCells.{InCell}
 use Rattle.syntax.proofs.SymbolBounds.{symbol-few}
-use Rattle.syntax.proofs.CutLengths.{cut-lengths}
+use Rattle.lexer.proofs.CutLengths.{cut-lengths}
 use Rattle.syntax.proofs.TextStored.{lexed, token-most, mark-held, program-read, program-ends, size, symbols-whole, held-same}
 use Rattle.syntax.proofs.ReadAnswers.{text-refused, text-judged, text-answer, text-accepted}
 

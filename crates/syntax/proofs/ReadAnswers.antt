@@ -15,11 +15,11 @@ use Rattle.language.specs.Words.{Word}
 use Rattle.language.specs.Tokens.{Text, Token, tokens}
 use Rattle.language.specs.Reader.{Res, ok, refused, refuse, andThen, unlessFault, Reader}
 use Rattle.language.specs.Reading.{readText}
-use Rattle.syntax.specs.declared.got.Got.{Got}
-use Rattle.syntax.specs.declared.got.Got.the-variants.{Past, Refused}
+use Rattle.lexer.specs.declared.got.Got.{Got}
+use Rattle.lexer.specs.declared.got.Got.the-variants.{Past, Refused}
 use Rattle.syntax.specs.declared.check.Verdict.{Verdict}
 use Rattle.syntax.specs.Positions.{onPast}
-use Rattle.syntax.specs.Cutting.{scan, outsideAt, soundAt, shortAt, bytesAt}
+use Rattle.lexer.specs.Cutting.{scan, outsideAt, soundAt, shortAt, bytesAt}
 use Rattle.syntax.specs.ReadAnswer.{verdictGot, answer, resGot, bytesGot}
 use Rattle.syntax.proofs.Tracks.{gotOf}
 use Rattle.syntax.proofs.CheckLaws.{coded}

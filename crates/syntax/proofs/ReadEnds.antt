@@ -5,8 +5,8 @@ use mathlib.Core.Bool.{Bool, true, false}
 use native.Mathlib.Omega.{arith}
 use Rattle.language.specs.Tokens.{plain, Token}
 use Rattle.language.specs.Grammar.{isEnd}
-use Rattle.syntax.specs.declared.got.Got.{Got}
-use Rattle.syntax.specs.declared.got.Got.the-variants.{Past, Refused}
+use Rattle.lexer.specs.declared.got.Got.{Got}
+use Rattle.lexer.specs.declared.got.Got.the-variants.{Past, Refused}
 use Rattle.syntax.specs.Positions as at
 use Rattle.syntax.specs.Positions.{onPast, seqP, pickP, wrongP, chooseP, upToP}
 use Rattle.syntax.proofs.Shut.{past-inj, refused-past}

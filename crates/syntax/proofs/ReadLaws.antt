@@ -3,12 +3,12 @@ use Prim.Native.Nat.{ℕ}
 use mathlib.Core.Path.{_≡_, refl, ap, _∙_, sym}
 use mathlib.Core.Bool.{Bool, true, false}
 use mathlib.Core.List.{List}
-use Rattle.syntax.specs.Cutting.{bytesAt}
-use Rattle.syntax.specs.Lexed.{State, Out}
+use Rattle.lexer.specs.Cutting.{bytesAt}
+use Rattle.lexer.specs.Lexed.{State, Out}
 use Rattle.syntax.specs.ReadCells.{zeros, roomy, ReadAnswer, ReadOut, untouched, cleared, programJudged, jobJudged, afterCut, afterBytes, ifRoomy, programCut, programCells, jobCut, jobCells}
-use Rattle.syntax.specs.declared.got.Got.{Got}
-use Rattle.syntax.specs.declared.got.Got.the-variants.{Past, Refused}
-use Rattle.syntax.specs.declared.lexer.Cut.{Cut}
+use Rattle.lexer.specs.declared.got.Got.{Got}
+use Rattle.lexer.specs.declared.got.Got.the-variants.{Past, Refused}
+use Rattle.lexer.specs.declared.lexer.Cut.{Cut}
 use Rattle.syntax.specs.declared.read.Read.the-variants.{Accepted, Refused as Rejected}
 
 -- what a text comes to behind its tokens: `judged` is what the grammar and the check find

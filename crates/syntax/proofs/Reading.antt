@@ -12,20 +12,20 @@ use Rattle.language.specs.Tokens.{symbolsOf}
 use Rattle.language.specs.Words.{Word}
 use Rattle.language.specs.JobCheck.{Tool, lister, runner}
 use Rattle.language.specs.Reading.{readProgram, readJob}
-use Rattle.syntax.specs.Cutting.{bytesAt}
-use Rattle.syntax.specs.Lexed.{State, starting, cutFrom}
+use Rattle.lexer.specs.Cutting.{bytesAt}
+use Rattle.lexer.specs.Lexed.{State, starting, cutFrom}
 use Rattle.syntax.specs.ReadAnswer.{resGot}
 use Rattle.syntax.specs.ReadCells.{zeros, roomy, ReadAnswer, ReadOut, untouched, cleared, kept, programJudged, jobJudged, afterCut, afterBytes, ifRoomy, programCut, programCells, jobCut, jobCells, readAs, programReading, toolOf, jobReading, ProgramLeft}
-use Rattle.syntax.specs.declared.got.Got.{Got}
+use Rattle.lexer.specs.declared.got.Got.{Got}
 use Rattle.syntax.specs.declared.read.Read.{Read}
-use Rattle.syntax.specs.declared.got.Got.the-variants.{Past, Refused}
-use Rattle.syntax.proofs.CutLengths.{SameLengths, cut-lengths}
+use Rattle.lexer.specs.declared.got.Got.the-variants.{Past, Refused}
+use Rattle.lexer.proofs.CutLengths.{SameLengths, cut-lengths}
 use Rattle.syntax.proofs.JobLaws.{isRunner}
 use Rattle.syntax.proofs.ReadLaws.{program-short, program-bytes, job-short, job-bytes}
 use Rattle.syntax.proofs.ProgramRead as program
 use Rattle.syntax.proofs.JobRead as job
 use Rattle.syntax.proofs.StoredCheck as storedCheck
-use Rattle.syntax.proofs.TableMeaning as table
+use Rattle.lexer.proofs.TableMeaning as table
 
 -- storages that are long enough
 pub record Rooms (marks nums ats symbols names : List ℕ) : Type 0 where

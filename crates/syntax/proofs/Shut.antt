@@ -15,8 +15,8 @@ use Rattle.language.specs.Bytes.{txt}
 use Rattle.language.specs.Tokens.{keyOf, Kind, symbol, ename, aname, evariable, avariable, plain, tag, sameKind, Token}
 use Rattle.language.specs.Reader.{is, isA, fitIf, roomed, oneFit}
 use Rattle.language.specs.Grammar.{isEnd}
-use Rattle.syntax.specs.declared.got.Got.{Got}
-use Rattle.syntax.specs.declared.got.Got.the-variants.{Past, Refused}
+use Rattle.lexer.specs.declared.got.Got.{Got}
+use Rattle.lexer.specs.declared.got.Got.the-variants.{Past, Refused}
 use Rattle.syntax.specs.Positions as at
 use Rattle.syntax.specs.Positions.{onPast, judgedAt, seqP, pickP, takeP, wrongP, chooseP, manyP, upToP}
 use Rattle.syntax.proofs.Standing.{roomed-fits}

@@ -11,7 +11,8 @@ use Rattle.language.specs.Reader.{ok}
 use Rattle.language.specs.Grammar.{program}
 use Rattle.language.specs.Source.{SProg, functions, defs, prog}
 use Rattle.language.specs.ProgramCheck.{programVerdict}
-use Rattle.syntax.specs.Stored.{kindAt, kindTag, markAt, offsetAt, decode}
+use Rattle.lexer.specs.Marks.{kindAt, kindTag, decode}
+use Rattle.syntax.specs.Stored.{markAt, offsetAt}
 use Rattle.syntax.specs.Stored as stored
 use Rattle.syntax.specs.Positions.{nothing}
 use Rattle.syntax.specs.StoredAt.{keyAt, tagAt, numAt, atAt}

@@ -8,7 +8,7 @@ use Rattle.language.specs.Words.{Word, Fit, fits, broken, long, many}
 use Rattle.language.specs.Tokens.{Piece, cut, Kind, symbol, ename, aname, evariable, avariable, plain, tag, kindOf, Text, fitOf, numOf, fitting, symbolsOf, namesOf, Token, tokensFrom, tokens}
 use Rattle.syntax.specs.Positions.{nothing}
 use Rattle.syntax.proofs.Tracks.{tokenAt}
-use Rattle.syntax.proofs.TokenMeaning.{place-most}
+use Rattle.lexer.proofs.TokenMeaning.{place-most}
 
 symbols-few : (symbols names : List Word) (t : Text) (n i : ℕ) (ps : List Piece) → tag (getD (tokensFrom symbols names t n ps) i nothing .kind) ≡ 0 → getD (tokensFrom symbols names t n ps) i nothing .num ≤ length symbols
 symbols-few symbols names t n i [] e = omega arith

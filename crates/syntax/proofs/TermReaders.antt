@@ -5,8 +5,8 @@ use mathlib.Core.Bool.{Bool, true, false}
 use mathlib.Core.List.{List}
 use native.Mathlib.Omega.{arith}
 use lib.Dec.{eqb}
-use Rattle.syntax.specs.declared.got.Got.{Got}
-use Rattle.syntax.specs.declared.got.Got.the-variants.{Past, Refused}
+use Rattle.lexer.specs.declared.got.Got.{Got}
+use Rattle.lexer.specs.declared.got.Got.the-variants.{Past, Refused}
 use Rattle.syntax.specs.Positions.{onPast, seqP, pickP, treeP, termP}
 use Rattle.syntax.specs.Stored.{markAt, wrongAt, theInAt, oneOfAt, leafAt, treeAt, treesAt, argsAt, testAt, conditionAt, callAt, conditionalAt, pairAt, termAt}
 use Rattle.syntax.proofs.StoredReaders.{on-seq}

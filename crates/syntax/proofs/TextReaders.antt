@@ -6,10 +6,11 @@ use mathlib.Core.List.{List}
 use native.Mathlib.Omega.{arith}
 use lib.Dec.{eqb}
 use Rattle.language.specs.Tokens.{tag}
-use Rattle.syntax.specs.declared.got.Got.{Got}
-use Rattle.syntax.specs.declared.got.Got.the-variants.{Past, Refused}
+use Rattle.lexer.specs.declared.got.Got.{Got}
+use Rattle.lexer.specs.declared.got.Got.the-variants.{Past, Refused}
 use Rattle.syntax.specs.Positions.{onPast, seqP, pickP, treeP, parametersP, definitionP, definitionsP, programP, jobP}
-use Rattle.syntax.specs.Stored.{markAt, kindAt, kindTag, wrongAt, theInAt, oneOfAt, treeAt, treesAt, termAt, parameterAt, parametersAt, definitionAt, definitionsAt, programAt, sidesAt, pairsAt, partAt, inputsAt, outputAt, nonEqualitiesAt, numeralAt, endAt, jobAt}
+use Rattle.lexer.specs.Marks.{kindAt, kindTag}
+use Rattle.syntax.specs.Stored.{markAt, wrongAt, theInAt, oneOfAt, treeAt, treesAt, termAt, parameterAt, parametersAt, definitionAt, definitionsAt, programAt, sidesAt, pairsAt, partAt, inputsAt, outputAt, nonEqualitiesAt, numeralAt, endAt, jobAt}
 use Rattle.syntax.proofs.StoredReaders.{on-seq, tag-kind}
 use Rattle.syntax.proofs.TermReaders.{on-seq3, on-seq4}
 

@@ -15,17 +15,18 @@ use Rattle.language.specs.Tokens.{cut, tag, Text, symbolsOf, namesOf, Token, to
 use Rattle.language.specs.Reader.{ok}
 use Rattle.language.specs.Source.{SProg, SJob}
 use Rattle.language.specs.Grammar.{program, jobText}
-use Rattle.syntax.specs.declared.got.Got.{Got}
-use Rattle.syntax.specs.declared.got.Got.the-variants.{Past}
+use Rattle.lexer.specs.declared.got.Got.{Got}
+use Rattle.lexer.specs.declared.got.Got.the-variants.{Past}
 use Rattle.syntax.specs.Positions.{nothing, programP, jobP}
-use Rattle.syntax.specs.Stored.{fitNumber, cellOf, markOf, decode, seen, programAt, jobAt}
+use Rattle.lexer.specs.Marks.{fitNumber, cellOf, markOf, decode}
+use Rattle.syntax.specs.Stored.{seen, programAt, jobAt}
 use Rattle.syntax.specs.Stored as stored
-use Rattle.syntax.specs.Cutting.{wordAt}
-use Rattle.syntax.specs.Judged.{textOf}
-use Rattle.syntax.specs.Table.{wordIn}
-use Rattle.syntax.specs.Lexed.{shifted, shutAt, shuts, State, starting, cutFrom}
-use Rattle.syntax.proofs.Encoding.{decoded, marked}
-use Rattle.syntax.proofs.TableMeaning.{Holds, holds-none}
+use Rattle.lexer.specs.Cutting.{wordAt}
+use Rattle.lexer.specs.Judged.{textOf}
+use Rattle.lexer.specs.Table.{wordIn}
+use Rattle.lexer.specs.Lexed.{shifted, shutAt, shuts, State, starting, cutFrom}
+use Rattle.lexer.proofs.Encoding.{decoded, marked}
+use Rattle.lexer.proofs.TableMeaning.{Holds, holds-none}
 use Rattle.syntax.proofs.Tracks.{gotOf, tokenAt}
 use Rattle.syntax.proofs.GrammarTracks.{program-tracks, job-tracks}
 use Rattle.syntax.proofs.Shut.{Alike, Stops, stops-over, stops-unfit, Same, same-program, same-job}

@@ -12,12 +12,12 @@ use Rattle.language.specs.Words.{Word, Fit, fits, broken, long, many}
 use Rattle.language.specs.Tokens.{Piece, cut, Kind, symbol, ename, aname, evariable, avariable, plain, kindOf, Text, ofProgram, ofJob, fitOf, numOf, fitting, symbolsOf, namesOf, Token, tokensFrom, tokens}
 use Rattle.language.proofs.TokenNumbers.{KindNumber, TokenNumber, text-numbered}
 use Rattle.syntax.specs.Positions.{nothing}
-use Rattle.syntax.specs.Stored.{fitNumber, cellOf}
-use Rattle.syntax.specs.Lexed.{shutAt, shuts}
+use Rattle.lexer.specs.Marks.{fitNumber, cellOf}
+use Rattle.lexer.specs.Lexed.{shutAt, shuts}
 use Rattle.syntax.proofs.Tracks.{tokenAt}
-use Rattle.syntax.proofs.TokenMeaning.{key-most}
+use Rattle.lexer.proofs.TokenMeaning.{key-most}
 use Rattle.syntax.proofs.LexedMeaning.{key-none}
-use Rattle.syntax.proofs.LexedStep.{open-over}
+use Rattle.lexer.proofs.LexedStep.{open-over}
 
 keys-known : (symbols names : List Word) (t : Text) (n i : ℕ) (ps : List Piece) → getD (tokensFrom symbols names t n ps) i nothing .key ≤ 18
 keys-known symbols names t n i [] = omega arith

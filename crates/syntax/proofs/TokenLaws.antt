@@ -18,8 +18,8 @@ use Rattle.syntax.specs.Ends.{opens, closes}
 use Rattle.syntax.proofs.Tracks.{tokenAt}
 use Rattle.syntax.proofs.JobLaws.{Fixed}
 use Rattle.syntax.proofs.EndsLaws.{Unbracketed}
-use Rattle.syntax.proofs.TableMeaning.{same-word}
-use Rattle.syntax.proofs.LexedStep.{or-none}
+use Rattle.lexer.proofs.TableMeaning.{same-word}
+use Rattle.lexer.proofs.LexedStep.{or-none}
 
 -- what holds of the fixed words holds of a word that is one
 allWords : (Word → Bool) → List String → Bool

@@ -11,8 +11,8 @@ use Rattle.language.specs.Bytes.{Refusal}
 use Rattle.language.specs.Words.{Fit, fits, broken, long, many}
 use Rattle.language.specs.Tokens.{Token}
 use Rattle.language.specs.Reader.{Res, ok, refused, andThen, Reader, _>>=_, _>>_, give, judged, take, is, wrong, next, pick, choose, manyIn, upTo}
-use Rattle.syntax.specs.declared.got.Got.{Got}
-use Rattle.syntax.specs.declared.got.Got.the-variants.{Past, Refused}
+use Rattle.lexer.specs.declared.got.Got.{Got}
+use Rattle.lexer.specs.declared.got.Got.the-variants.{Past, Refused}
 use Rattle.syntax.specs.Positions.{onPast, judgedAt, nothing, seqP, pickP, takeP, wrongP, chooseP, manyP, upToP}
 use Rattle.syntax.proofs.Advances.{Advance, Advances, manyIn-advances}
 

@@ -5,7 +5,7 @@ use mathlib.Core.Bool.{Bool, true, false, cond, _||_}
 use mathlib.Core.List.{List}
 use lib.Dec.{eqb, leb}
 use lib.ListN.{set}
-use Rattle.syntax.specs.Stored.{cellOf}
+use Rattle.lexer.specs.Marks.{cellOf}
 
 module _ (key : ℕ → ℕ) where
   abbrev pub opens : ℕ → Bool

@@ -2,7 +2,7 @@
 use Prim.Native.Nat.{ℕ, zero, suc, _+_}
 use mathlib.Core.List.{List}
 use lib.ListN.{getD, set}
-use Rattle.syntax.specs.Stored.{cellOf}
+use Rattle.lexer.specs.Marks.{cellOf}
 
 -- the indices from number j on, `left` of them, each in its cell
 unfoldable pub headsFrom : List ℕ → ℕ → ℕ → List ℕ → List ℕ

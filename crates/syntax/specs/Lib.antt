@@ -1,9 +1,5 @@
 pub mod Positions
 pub mod Stored
-pub mod Cutting
-pub mod Judged
-pub mod Table
-pub mod Lexed
 pub mod StoredAt
 pub mod CheckStored
 pub mod Standing

@@ -7,8 +7,8 @@ use Rattle.language.specs.Words.{Fit, fits, broken, long, many}
 use Rattle.language.specs.Tokens.{Kind, symbol, ename, aname, evariable, avariable, plain, Token}
 use Rattle.language.specs.Reader.{is, isA, fitIf, roomed, oneFit}
 use Rattle.language.specs.Grammar.{isEnd}
-use Rattle.syntax.specs.declared.got.Got.{Got}
-use Rattle.syntax.specs.declared.got.Got.the-variants.{Past, Refused}
+use Rattle.lexer.specs.declared.got.Got.{Got}
+use Rattle.lexer.specs.declared.got.Got.the-variants.{Past, Refused}
 
 -- what comes behind, from the index where the first ended
 abbrev pub onPast : (ℕ → Got) → Got → Got

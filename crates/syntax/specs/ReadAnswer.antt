@@ -5,12 +5,12 @@ use mathlib.Core.List.{List}
 use mathlib.Core.Option.{none, some}
 use Rattle.language.specs.Bytes as bytes
 use Rattle.language.specs.Reader.{Res, ok, refused}
-use Rattle.syntax.specs.declared.got.Got.{Got}
-use Rattle.syntax.specs.declared.got.Got.the-variants.{Past, Refused}
+use Rattle.lexer.specs.declared.got.Got.{Got}
+use Rattle.lexer.specs.declared.got.Got.the-variants.{Past, Refused}
 use Rattle.syntax.specs.declared.check.Verdict.{Verdict}
 use Rattle.syntax.specs.declared.check.Verdict.the-variants.{Fine, Fault}
 use Rattle.syntax.specs.Positions.{onPast}
-use Rattle.syntax.specs.Cutting.{bytesAt}
+use Rattle.lexer.specs.Cutting.{bytesAt}
 use Rattle.syntax.specs.Stored as stored
 use Rattle.syntax.specs.CheckStored as check
 use Rattle.syntax.specs.JobStored as jobCheck

@@ -15,10 +15,10 @@ use Rattle.syntax.specs.ReadAnswer.{verdictGot}
 use Rattle.syntax.specs.Stored as stored
 use Rattle.syntax.specs.CheckStored as check
 use Rattle.syntax.specs.JobStored as job
-use Rattle.syntax.specs.Cutting.{bytesAt}
-use Rattle.syntax.specs.Lexed.{State, cutFrom, starting}
-use Rattle.syntax.specs.declared.got.Got.{Got}
-use Rattle.syntax.specs.declared.got.Got.the-variants.{Past, Refused}
+use Rattle.lexer.specs.Cutting.{bytesAt}
+use Rattle.lexer.specs.Lexed.{State, cutFrom, starting}
+use Rattle.lexer.specs.declared.got.Got.{Got}
+use Rattle.lexer.specs.declared.got.Got.the-variants.{Past, Refused}
 use Rattle.syntax.specs.declared.read.Read.{Read}
 use Rattle.syntax.specs.declared.read.Read.the-variants.{Accepted, Refused as Rejected, Short}
 

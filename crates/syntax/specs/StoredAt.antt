@@ -4,7 +4,8 @@ use mathlib.Core.Bool.{cond}
 use mathlib.Core.List.{List}
 use lib.Dec.{ltb}
 use lib.ListN.{getD}
-use Rattle.syntax.specs.Stored.{markAt, offsetAt, kindTag}
+use Rattle.lexer.specs.Marks.{kindTag}
+use Rattle.syntax.specs.Stored.{markAt, offsetAt}
 
 abbrev pub keyAt : List ℕ → ℕ → ℕ → ℕ
 keyAt marks n i = cond (ltb i n) (markAt marks i % 32) 18

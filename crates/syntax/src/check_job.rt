@@ -1,6 +1,5 @@
 // The check of a job by its tokens: "Job: 10, 11, 12" (01, "From the input"). The tokens, n of the job and m of the program before it, were
 // read without refusal; `main` holds the marks of the program's, `runs` is whether the tool is the runner.
-use crate::cells::byte;
 use crate::check::Args;
 use crate::check::Verdict;
 use crate::check::Walked;
@@ -9,18 +8,19 @@ use crate::check::either;
 use crate::check::first;
 use crate::check::judge;
 use crate::check::negated;
-use crate::keys::ANAME;
-use crate::keys::AVARIABLE;
-use crate::keys::CLOSE;
-use crate::keys::CLOSE_LIST;
-use crate::keys::EVARIABLE;
-use crate::keys::OPEN;
-use crate::keys::SYMBOL;
 use crate::places::ahead;
 use crate::places::key;
 use crate::places::kind;
 use crate::places::num;
 use crate::places::offset;
+use lexer::cells::byte;
+use lexer::keys::ANAME;
+use lexer::keys::AVARIABLE;
+use lexer::keys::CLOSE;
+use lexer::keys::CLOSE_LIST;
+use lexer::keys::EVARIABLE;
+use lexer::keys::OPEN;
+use lexer::keys::SYMBOL;
 ghost use mathlib.Core.Path.{_≡_};
 ghost use Prim.Native.Nat.{_-_};
 ghost use mathlib.Core.Bool.{false};

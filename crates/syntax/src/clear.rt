@@ -2,7 +2,7 @@
 ghost use mathlib.Core.Path.{_≡_};
 ghost use Rattle.syntax.specs.ReadCells.{zeros};
 
-pub(crate) fn clear(s: &mut [u16])
+pub fn clear(s: &mut [u16])
     ensures { λ _. ⌜ now (s .exit) ≡ zeros (now (s .entry)) ⌝ }
 {
     for i in 0..s.len() {

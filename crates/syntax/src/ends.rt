@@ -1,14 +1,14 @@
 // Where what starts at a token ends, by the brackets (specs/Ends.antt): for who skips a branch.
-use crate::cells::put;
 use crate::check::either;
-use crate::keys::CLOSE;
-use crate::keys::CLOSE_LIST;
-use crate::keys::OPEN;
-use crate::keys::OPEN_LIST;
 use crate::places::key;
+use lexer::cells::put;
+use lexer::keys::CLOSE;
+use lexer::keys::CLOSE_LIST;
+use lexer::keys::OPEN;
+use lexer::keys::OPEN_LIST;
 ghost use mathlib.Core.Path.{_≡_};
 ghost use Prim.Native.Nat.{_-_};
-ghost use Rattle.syntax.specs.Stored.{cellOf};
+ghost use Rattle.lexer.specs.Marks.{cellOf};
 ghost use Rattle.syntax.specs.StoredAt.{keyAt};
 ghost use Rattle.syntax.specs.Ends.{opens, closes, closeFrom, pastAt, endsFrom};
 

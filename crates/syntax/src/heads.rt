@@ -1,8 +1,8 @@
 // Where the definitions of an accepted program stand.
-use crate::cells::put;
 use crate::check::index;
 use crate::check_program::definitions;
 use crate::ends::narrow;
+use lexer::cells::put;
 ghost use mathlib.Core.Path.{_≡_};
 ghost use Prim.Native.Nat.{_-_};
 ghost use Rattle.syntax.specs.CheckAt.{noDefs};

@@ -1,9 +1,10 @@
 // What a reader sees of a stored token: its key, its kind, how it fits, whether it is one too many, its offset (specs/Stored.antt).
-use crate::cells::cell;
-use crate::got::Got;
+use lexer::cells::cell;
+use lexer::got::Got;
 ghost use mathlib.Core.Path.{_≡_};
 ghost use Prim.Native.Nat.{_%_};
-ghost use Rattle.syntax.specs.Stored.{markAt, offsetAt, kindTag, fitAt, overMark, fitTag};
+ghost use Rattle.lexer.specs.Marks.{kindTag, fitAt, overMark, fitTag};
+ghost use Rattle.syntax.specs.Stored.{markAt, offsetAt};
 ghost use Rattle.syntax.specs.Positions.{judgedAt};
 
 // The mark past the end of the storage: no fixed word, a plain word that is broken, and one too many. No reader passes it.

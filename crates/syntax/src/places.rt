@@ -1,8 +1,8 @@
 // What a stored token holds, by its index, and the index some tokens on (specs/StoredAt.antt). `n` is the number of tokens.
-use crate::cells::cell;
-use crate::keys::OTHER;
-use crate::keys::PLAIN;
 use crate::marks;
+use lexer::cells::cell;
+use lexer::keys::OTHER;
+use lexer::keys::PLAIN;
 ghost use mathlib.Core.Path.{_≡_};
 ghost use Rattle.syntax.specs.StoredAt.{keyAt, tagAt, numAt, atAt};
 ghost use Rattle.syntax.specs.CheckAt.{ahead};

@@ -1,6 +1,6 @@
 // What reading a text answers, and whether the storage lent for it is long enough (specs/ReadCells.antt).
 use crate::check::Verdict;
-use crate::got::Got;
+use lexer::got::Got;
 ghost use mathlib.Core.Path.{_≡_};
 ghost use Rattle.syntax.specs.ReadCells.{roomy};
 ghost use Rattle.syntax.specs.ReadAnswer.{verdictGot};

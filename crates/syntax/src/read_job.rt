@@ -1,18 +1,18 @@
 // Reading and checking a job against a program that was read: "Each: 1; 2; then 3, 4, 5 at the earliest token. Job: 10, 11, 12"
 // (01, "From the input"). `runs` is whether the tool is the runner; `main` holds the marks of the program's tokens, m of them.
-use crate::bytes::sound_bytes;
 use crate::check_job::check_job;
 use crate::clear::clear;
 use crate::clear::clear_tokens;
-use crate::got::Got;
 use crate::jobs::job;
-use crate::lexer::cut_tokens;
 use crate::read::Read;
 use crate::read::after_check;
 use crate::read::long_enough;
+use lexer::bytes::sound_bytes;
+use lexer::got::Got;
+use lexer::lexer::cut_tokens;
 ghost use mathlib.Core.Path.{_≡_};
 ghost use mathlib.Core.Bool.{true};
-ghost use Rattle.syntax.specs.Lexed.{cutFrom, starting};
+ghost use Rattle.lexer.specs.Lexed.{cutFrom, starting};
 ghost use Rattle.syntax.specs.ReadCells.{ReadOut, jobJudged, afterCut, jobCells, jobReading, ProgramLeft};
 ghost use Rattle.language.specs.Source.{SProg};
 

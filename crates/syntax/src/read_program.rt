@@ -1,18 +1,18 @@
 // Reading and checking a program: "Each: 1; 2; then 3, 4, 5 at the earliest token. Program: 6; then 7, 8, 9 at the earliest token"
 // (01, "From the input").
-use crate::bytes::sound_bytes;
 use crate::check_program::check_program;
 use crate::clear::clear;
 use crate::clear::clear_tokens;
 use crate::definitions::program;
-use crate::got::Got;
-use crate::lexer::cut_tokens;
 use crate::read::Read;
 use crate::read::after_check;
 use crate::read::long_enough;
+use lexer::bytes::sound_bytes;
+use lexer::got::Got;
+use lexer::lexer::cut_tokens;
 ghost use mathlib.Core.Path.{_≡_};
 ghost use mathlib.Core.Bool.{false};
-ghost use Rattle.syntax.specs.Lexed.{cutFrom, starting};
+ghost use Rattle.lexer.specs.Lexed.{cutFrom, starting};
 ghost use Rattle.syntax.specs.ReadCells.{ReadOut, programJudged, afterCut, programReading};
 
 // "A program has at most 32,768 bytes".

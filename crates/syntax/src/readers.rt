@@ -1,15 +1,15 @@
 // The smallest readers: one token, or one e or d (specs/Positions.antt). A reader takes what the one before it got: it reads on from
 // there, or hands the refusal on.
-use crate::got::Got;
-use crate::keys::CLOSE;
-use crate::keys::CONS;
-use crate::keys::OPEN;
-use crate::keys::SYMBOL;
 use crate::marks::fit;
 use crate::marks::judged;
 use crate::marks::key;
 use crate::marks::kind;
 use crate::marks::offset;
+use lexer::got::Got;
+use lexer::keys::CLOSE;
+use lexer::keys::CONS;
+use lexer::keys::OPEN;
+use lexer::keys::SYMBOL;
 ghost use mathlib.Core.Path.{_≡_};
 ghost use Rattle.syntax.specs.Positions.{onPast};
 ghost use Rattle.syntax.specs.Stored.{wrongAt, theInAt, oneOfAt, leafAt, treeAt};

@@ -7,7 +7,7 @@ use borrow.Fn.PlainCycle.{Measures, is, falls, and}
 use Rattle.syntax.proofs.check_job.numeral.Reads as numeral
 use Rattle.syntax.proofs.check_job.numeral.Kinds as numeral-kinds
 use Rattle.syntax.proofs.check_job.+numeral.Lts-numeral as numeral-lts
-use Rattle.syntax.proofs.cells.byte.Reads as byte-reads
+use Rattle.lexer.proofs.cells.byte.Reads as byte-reads
 use Rattle.syntax.proofs.places.ahead.Reads as ahead-reads
 use Rattle.syntax.proofs.check_job.+numeral.{statement}
 use Rattle.syntax.proofs.check_job.+numeral.Tie.{close}

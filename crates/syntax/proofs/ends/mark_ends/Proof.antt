@@ -4,7 +4,7 @@ use Prim.Native.Nat.{_+_, _-_}
 use native.Mathlib.Nat.{sub-zero}
 use native.Mathlib.Omega.{arith}
 use lib.ListN.{length, set, length-set}
-use Rattle.syntax.specs.Stored.{cellOf}
+use Rattle.lexer.specs.Marks.{cellOf}
 use Rattle.syntax.specs.StoredAt.{keyAt}
 use Rattle.syntax.specs.Ends.{endsFrom}
 use Rattle.syntax.proofs.CheckOpenings.{ends-none, ends-more}
@@ -13,7 +13,7 @@ use Rattle.syntax.proofs.ends.mark_ends.Statement.{statement}
 use Rattle.syntax.proofs.ends.mark_ends.Tie as tie
 use Rattle.syntax.proofs.ends.mark_ends.Reads as reads
 use Rattle.syntax.proofs.ends.mark_ends.Lts as lts
-use Rattle.syntax.proofs.cells.put.Reads as put-reads
+use Rattle.lexer.proofs.cells.put.Reads as put-reads
 use Rattle.syntax.proofs.ends.narrow.Reads as narrow-reads
 use Rattle.syntax.proofs.ends.past.Reads as past-reads
 

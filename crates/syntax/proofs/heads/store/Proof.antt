@@ -3,7 +3,7 @@ use mathlib.Core.Path.{_≡_, refl, ap, sym, _∙_}
 use Prim.Native.Nat.{_+_, _-_}
 use native.Mathlib.Nat.{sub-zero}
 use lib.ListN.{length, set, length-set}
-use Rattle.syntax.specs.Stored.{cellOf}
+use Rattle.lexer.specs.Marks.{cellOf}
 use Rattle.syntax.specs.Heads.{headsFrom}
 use Rattle.syntax.proofs.CheckOpenings.{heads-none, heads-more}
 use borrow.Author.Needs.{needs}
@@ -11,7 +11,7 @@ use Rattle.syntax.proofs.heads.store.Statement.{statement}
 use Rattle.syntax.proofs.heads.store.Tie as tie
 use Rattle.syntax.proofs.heads.store.Reads as reads
 use Rattle.syntax.proofs.heads.store.Lts as lts
-use Rattle.syntax.proofs.cells.put.Reads as put-reads
+use Rattle.lexer.proofs.cells.put.Reads as put-reads
 use Rattle.syntax.proofs.check.index.Reads as index-reads
 use Rattle.syntax.proofs.ends.narrow.Reads as narrow-reads
 

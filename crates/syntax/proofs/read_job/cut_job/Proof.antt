@@ -8,7 +8,8 @@ use Rattle.syntax.proofs.read_job.cut_job.Reads as reads
 use Rattle.syntax.proofs.read_job.cut_job.Lts as lts
 use Rattle.syntax.proofs.clear.clear.Reads as clear-reads
 use Rattle.syntax.proofs.clear.clear_tokens.Reads as clear-tokens-reads
-use Rattle.syntax.proofs.lexer.cut_tokens.Reads as cut-tokens-reads
+use Rattle.lexer.proofs.LexedLaws.{out-of}
+use Rattle.lexer.proofs.lexer.cut_tokens.Reads as cut-tokens-reads
 use Rattle.syntax.proofs.read_job.judge_job.Reads as judge-job-reads
 
 cut-tokens-requires : tie.Need-cut-tokens-requires
@@ -46,7 +47,7 @@ same-length-5 c = search needs
 
 returns : tie.Need-returns
 returns c =
-    let o = c .before .before .before .before .before .before .before .before .before .before .before .before .before .before .before .before .before .before .before .before .before .before .before .before .before .before .before .before .before .before .before .before .before .before .cut-tokens .ensures in
+    let o = out-of (c .before .before .before .before .before .before .before .before .before .before .before .before .before .before .before .before .before .before .before .before .before .before .before .before .before .before .before .before .before .before .before .before .before .before .cut-tokens .ensures) in
     cut-refused (jobJudged (c .before .before .before .before .before .before .before .before .before .before .before .before .before .before .before .before .before .before .before .before .before .before .before .before .before .before .before .before .before .before .before .before .before .before .before .before .before .before .before .before .before .before .before .before .before .before .before .before .args .runs) (c .before .before .before .before .before .before .before .before .before .before .before .before .before .before .before .before .before .before .before .before .before .before .before .before .before .before .before .before .before .before .before .before .before .before .before .before .before .before .before .before .before .before .before .before .before .before .before .before .args .main .now) (c .before .before .before .before .before .before .before .before .before .before .before .before .before .before .before .before .before .before .before .before .before .before .before .before .before .before .before .before .before .before .before .before .before .before .before .before .before .before .before .before .before .before .before .before .before .before .before .before .args .m) (c .before .before .before .before .before .before .before .before .before .before .before .before .before .before .before .before .before .before .before .before .before .before .before .before .before .before .before .before .before .before .before .before .before .before .before .before .before .before .before .before .before .before .before .before .before .before .before .before .args .text .now)) _ _ _ _ _ _ _ o _ (c .before .before .before .before .before .before .before .before .before .before .before .before .before .before .before .before .judge-job .ensures) _ _ _ _ _ (c .before .before .before .before .before .before .before .before .before .before .before .before .before .before .before .before .before .before .before .before .before .before .clear .ensures) _ _ (c .before .before .before .before .before .before .before .before .before .before .before .before .before .before .got .given .1)
     (c .before .before .before .before .before .before .before .before .clear-tokens .ensures .0) (c .before .before .before .before .before .before .before .before .clear-tokens .ensures .1) (c .before .before .before .before .before .before .before .before .clear-tokens .ensures .2) (c .before .before .before .before .before .before .before .before .clear-tokens .ensures .3)
 
@@ -67,7 +68,7 @@ same-length-10 c = search needs
 
 returns-2 : tie.Need-returns-2
 returns-2 c =
-    let o = c .before .before .before .before .before .before .before .before .before .before .before .before .before .before .before .before .before .before .before .before .cut-tokens .ensures in
+    let o = out-of (c .before .before .before .before .before .before .before .before .before .before .before .before .before .before .before .before .before .before .before .before .cut-tokens .ensures) in
     cut-accepted (jobJudged (c .before .before .before .before .before .before .before .before .before .before .before .before .before .before .before .before .before .before .before .before .before .before .before .before .before .before .before .before .before .before .before .before .before .before .args .runs) (c .before .before .before .before .before .before .before .before .before .before .before .before .before .before .before .before .before .before .before .before .before .before .before .before .before .before .before .before .before .before .before .before .before .before .args .main .now) (c .before .before .before .before .before .before .before .before .before .before .before .before .before .before .before .before .before .before .before .before .before .before .before .before .before .before .before .before .before .before .before .before .before .before .args .m) (c .before .before .before .before .before .before .before .before .before .before .before .before .before .before .before .before .before .before .before .before .before .before .before .before .before .before .before .before .before .before .before .before .before .before .args .text .now)) _ _ _ _ _ _ _ o _ (c .before .before .judge-job .ensures) _ _ _ _ _ (c .before .before .before .before .before .before .before .before .clear .ensures) _ (c .enum-told .given .1) refl refl refl refl
 
 pub cut-job-spec : {M : Type 1} → statement M

@@ -8,7 +8,8 @@ use Rattle.syntax.proofs.read_program.cut_program.Reads as reads
 use Rattle.syntax.proofs.read_program.cut_program.Lts as lts
 use Rattle.syntax.proofs.clear.clear.Reads as clear-reads
 use Rattle.syntax.proofs.clear.clear_tokens.Reads as clear-tokens-reads
-use Rattle.syntax.proofs.lexer.cut_tokens.Reads as cut-tokens-reads
+use Rattle.lexer.proofs.LexedLaws.{out-of}
+use Rattle.lexer.proofs.lexer.cut_tokens.Reads as cut-tokens-reads
 use Rattle.syntax.proofs.read_program.judge_program.Reads as judge-program-reads
 
 cut-tokens-requires : tie.Need-cut-tokens-requires
@@ -46,7 +47,7 @@ same-length-5 c = search needs
 
 returns : tie.Need-returns
 returns c =
-    let o = c .before .before .before .before .before .before .before .before .before .before .before .before .before .before .before .before .before .before .before .before .before .before .before .before .before .before .before .before .before .before .before .before .before .before .cut-tokens .ensures in
+    let o = out-of (c .before .before .before .before .before .before .before .before .before .before .before .before .before .before .before .before .before .before .before .before .before .before .before .before .before .before .before .before .before .before .before .before .before .before .cut-tokens .ensures) in
     cut-refused programJudged _ _ _ _ _ _ _ o _ (c .before .before .before .before .before .before .before .before .before .before .before .before .before .before .before .before .judge-program .ensures) _ _ _ _ _ (c .before .before .before .before .before .before .before .before .before .before .before .before .before .before .before .before .before .before .before .before .before .before .clear .ensures) _ _ (c .before .before .before .before .before .before .before .before .before .before .before .before .before .before .got .given .1)
     (c .before .before .before .before .before .before .before .before .clear-tokens .ensures .0) (c .before .before .before .before .before .before .before .before .clear-tokens .ensures .1) (c .before .before .before .before .before .before .before .before .clear-tokens .ensures .2) (c .before .before .before .before .before .before .before .before .clear-tokens .ensures .3)
 
@@ -67,7 +68,7 @@ same-length-10 c = search needs
 
 returns-2 : tie.Need-returns-2
 returns-2 c =
-    let o = c .before .before .before .before .before .before .before .before .before .before .before .before .before .before .before .before .before .before .before .before .cut-tokens .ensures in
+    let o = out-of (c .before .before .before .before .before .before .before .before .before .before .before .before .before .before .before .before .before .before .before .before .cut-tokens .ensures) in
     cut-accepted programJudged _ _ _ _ _ _ _ o _ (c .before .before .judge-program .ensures) _ _ _ _ _ (c .before .before .before .before .before .before .before .before .clear .ensures) _ (c .enum-told .given .1) refl refl refl refl
 
 pub cut-program-spec : {M : Type 1} → statement M

@@ -7,7 +7,7 @@ use Rattle.syntax.proofs.read_program.read_program.Statement.{statement
 use Rattle.syntax.proofs.read_program.read_program.Tie as tie
 use Rattle.syntax.proofs.read_program.read_program.Reads as reads
 use Rattle.syntax.proofs.read_program.read_program.Lts as lts
-use Rattle.syntax.proofs.bytes.sound_bytes.Reads as sound-bytes-reads
+use Rattle.lexer.proofs.bytes.sound_bytes.Reads as sound-bytes-reads
 use Rattle.syntax.proofs.clear.clear.Reads as clear-reads
 use Rattle.syntax.proofs.clear.clear_tokens.Reads as clear-tokens-reads
 use Rattle.syntax.proofs.read.long_enough.Reads as long-enough-reads

@@ -1,0 +1,15 @@
+pub mod EnvironmentTurns
+pub mod TableLaws
+pub mod EnvironmentLaws
+pub mod UpdateLaws
+pub mod BindingLaws
+pub mod ValueLaws
+pub mod ArgumentLaws
+pub mod ContractionEnvironment
+pub mod FillingEnvironment
+pub mod CellEnvironments
+pub mod StoreLengths
+pub mod LateTurns
+pub mod LateLaws
+pub mod DelayLaws
+pub mod ArgumentLengths

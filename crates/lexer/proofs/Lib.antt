@@ -1,0 +1,13 @@
+pub mod Ranges
+pub mod Pieces
+pub mod CellLaws
+pub mod CuttingLaws
+pub mod WordLaws
+pub mod TableLaws
+pub mod LexedLaws
+pub mod Encoding
+pub mod CutByIndex
+pub mod TableMeaning
+pub mod TokenMeaning
+pub mod LexedStep
+pub mod CutLengths

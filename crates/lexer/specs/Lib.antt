@@ -1,0 +1,5 @@
+pub mod Marks
+pub mod Cutting
+pub mod Judged
+pub mod Table
+pub mod Lexed

@@ -1,0 +1,10 @@
+pub mod SinkLaws
+pub mod DigitLaws
+pub mod TextTurns
+pub mod TreeLaws
+pub mod SeenLaws
+pub mod BindingLaws
+pub mod LineLaws
+pub mod OutcomeLaws
+pub mod NameLaws
+pub mod PrintedTexts

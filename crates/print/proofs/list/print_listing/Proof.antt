@@ -1,0 +1,68 @@
+use Prim.Native.Nat.{ℕ}
+use mathlib.Core.Path.{ap, ap₂, _∙_}
+use mathlib.Core.List.{List}
+use Rattle.print.specs.Sink.{puts}
+use Rattle.print.specs.TreeText.{symbolText}
+use Rattle.print.specs.LineText.{linesText}
+use Rattle.print.specs.ListingText.{listingText}
+use Rattle.print.proofs.SinkLaws.{behind, printed}
+use borrow.Author.Needs.{needs}
+use Rattle.print.proofs.list.print_listing.Statement.{statement}
+use Rattle.print.proofs.list.print_listing.Tie as tie
+use Rattle.print.proofs.list.print_listing.Reads as reads
+use Rattle.print.proofs.list.print_listing.Lts as lts
+use Rattle.print.proofs.line.put_lines.Reads as put-lines-reads
+use Rattle.print.proofs.list.put_first.Reads as put-first-reads
+use Rattle.print.proofs.parts.front.Reads as front-reads
+use Rattle.print.proofs.sink.clear.Reads as clear-reads
+use Rattle.print.proofs.sink.opened.Reads as opened-reads
+use Rattle.print.proofs.sink.written.Reads as written-reads
+
+mul-front : tie.Need-mul-front
+mul-front c = search needs
+
+front-requires : tie.Need-front-requires
+front-requires c κs = search needs
+
+clear-requires : tie.Need-clear-requires
+clear-requires c κs = search needs
+
+opened-requires : tie.Need-opened-requires
+opened-requires c κs = search needs
+
+put-first-requires : tie.Need-put-first-requires
+put-first-requires c κs = search needs
+
+front-requires-2 : tie.Need-front-requires-2
+front-requires-2 c κs = search needs
+
+put-lines-requires : tie.Need-put-lines-requires
+put-lines-requires c κs = search needs
+
+written-requires : tie.Need-written-requires
+written-requires c κs = search needs
+
+same-length : tie.Need-same-length
+same-length c = search needs
+
+returns : tie.Need-returns
+unfolding listingText
+returns c =
+    let a = c .before .before .before .before .before .before .before .before .before .before .before .before .before .before .before .before .before .before .before .before .before .before .args in
+    let text = ap₂ (λ (t v : List ℕ). linesText (symbolText (a .program .now) (a .job .now) t) v (a .lines) 0 (a .answer .now)) (c .before .before .before .before .before .before .before .before .before .before .before .before .before .before .before .front .ensures) (c .before .before .before .before .before .front2 .ensures) in
+    printed _ _ _ _ _ _ _ _ (c .before .before .before .before .before .before .before .before .before .before .opened .ensures) (c .before .before .before .before .before .before .before .before .before .before .before .before .before .clear .ensures) (behind _ _ _ (c .before .before .before .before .before .before .before .before .put-first .ensures) ((c .before .before .before .put-lines .ensures) ∙ ap (puts _) text)) (c .written .ensures)
+
+pub print-listing-spec : {M : Type 1} → statement M
+print-listing-spec =
+    tie.close
+    (tie.spec
+    mul-front
+    front-requires
+    clear-requires
+    opened-requires
+    put-first-requires
+    front-requires-2
+    put-lines-requires
+    written-requires
+    same-length
+    returns)

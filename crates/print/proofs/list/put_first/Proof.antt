@@ -1,0 +1,31 @@
+use Rattle.print.proofs.SinkLaws.{behind}
+use Rattle.print.specs.ListingText.{firstText}
+use borrow.Author.Needs.{needs}
+use Rattle.print.proofs.list.put_first.Statement.{statement}
+use Rattle.print.proofs.list.put_first.Tie as tie
+use Rattle.print.proofs.list.put_first.Reads as reads
+use Rattle.print.proofs.list.put_first.Lts as lts
+use Rattle.print.proofs.line.put_numbers.Reads as put-numbers-reads
+use Rattle.print.proofs.list.put_ending.Reads as put-ending-reads
+use Rattle.print.proofs.sink.put_byte.Reads as put-byte-reads
+
+put-ending-requires : tie.Need-put-ending-requires
+put-ending-requires c κs = search needs
+
+put-numbers-requires : tie.Need-put-numbers-requires
+put-numbers-requires c κs = search needs
+
+put-byte-requires : tie.Need-put-byte-requires
+put-byte-requires c κs = search needs
+
+same-length : tie.Need-same-length
+same-length c = search needs
+
+returns : tie.Need-returns
+unfolding firstText
+returns c = behind _ _ _ (behind _ _ _ (c .before .before .before .before .before .before .before .before .before .before .put-ending .ensures) (c .before .before .before .before .before .before .put-numbers .ensures)) (c .before .before .put-byte .ensures)
+
+pub put-first-spec : {M : Type 1} → statement M
+put-first-spec =
+    tie.close
+    (tie.spec put-ending-requires put-numbers-requires put-byte-requires same-length returns)

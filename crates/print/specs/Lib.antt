@@ -1,0 +1,8 @@
+pub mod Sink
+pub mod TreeText
+pub mod LineText
+pub mod ListingText
+pub mod OutcomeText
+pub mod LineCells
+pub mod Names
+pub mod RanText

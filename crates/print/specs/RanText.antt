@@ -1,0 +1,25 @@
+-- The line of a run, from the two texts, the answer and the answer storage of `resolve::run`.
+use Prim.Native.Nat.{ℕ, _*_}
+use mathlib.Core.Bool.{true}
+use mathlib.Core.List.{List}
+use lib.ListN.{take, replicate}
+use Rattle.listing.specs.Text.{printRefusal, printRefusalOfNeither}
+use Rattle.resolve.specs.declared.run.Answer.{Answer}
+use Rattle.resolve.specs.declared.run.Answer.the-variants.{Value, Over, NotWithin, Program, Job, Short}
+use Rattle.print.specs.declared.outcome.Outcome.{Outcome}
+use Rattle.print.specs.declared.outcome.Outcome.the-variants.{Value as ValueOf, Over as OverOf, NotWithin as NotWithinOf}
+use Rattle.print.specs.Names.{textNames}
+use Rattle.print.specs.TreeText.{symbolText}
+use Rattle.print.specs.OutcomeText.{outcomeText}
+
+unfoldable pub namedText : List ℕ → List ℕ → List ℕ → Outcome → List ℕ
+namedText program job cells outcome =
+    let w = textNames true program job (replicate 2048 0) in outcomeText (symbolText program job (take (2 * w .found) (w .symbols))) cells outcome
+
+abbrev pub ranText : List ℕ → List ℕ → List ℕ → Answer → List ℕ
+ranText program job cells (Value steps length) = namedText program job cells (ValueOf steps length)
+ranText program job cells Over = namedText program job cells OverOf
+ranText program job cells NotWithin = namedText program job cells NotWithinOf
+ranText program job cells (Program number offset) = printRefusal 112 number offset
+ranText program job cells (Job number offset) = printRefusal 106 number offset
+ranText program job cells Short = printRefusalOfNeither 20

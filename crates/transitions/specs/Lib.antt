@@ -1,0 +1,9 @@
+pub mod ConfigurationCells
+pub mod ContractCells
+pub mod LookCells
+pub mod CallCells
+pub mod TransitionCells
+pub mod ContradictionCells
+pub mod BranchCells
+pub mod DatumCells
+pub mod StartCells
