@@ -15,10 +15,10 @@ use Rattle.sets.specs.Fill.{fillAnswer}
 use Rattle.sets.specs.declared.fill.Filled.{Filled}
 use Rattle.sets.specs.declared.fill.Filled.the-variants.{Done, Over}
 use Rattle.sets.proofs.RestrictionTurns.{two-cells}
-use Rattle.environments.specs.Storing.{Filled≡, stored, storedEntry}
+use Rattle.environments.specs.Storing.{FilledOut, stored, storedEntry}
 use Rattle.environments.specs.EnvironmentCells.{tableEntries, bindingPlace, findCells, movedEnd, movedFrom, PairOut, copiedEntries, storedValue, updatedE, BoundAnswer, boundAnswer, counted}
 use Rattle.environments.specs.ValueCells.{CellEnv, keyCell, tokenCells, evaluatedFrom}
-use Rattle.environments.specs.ArgumentCells.{argumentEnd, Arguments≡, argumentAnswer, boundArgument, boundFrom}
+use Rattle.environments.specs.ArgumentCells.{argumentEnd, ArgumentsOut, argumentAnswer, boundArgument, boundFrom}
 use Rattle.environments.specs.ContractionCells.{renamedValues, filledEntry, filledFrom}
 use Rattle.environments.specs.declared.environment.Counts.{Counts}
 use Rattle.environments.specs.declared.environment.Bound.{Bound}
@@ -156,7 +156,7 @@ module _ (marks nums : List ℕ) (e : CellEnv) (limit to i k : ℕ) (d : List �
   unfolding evaluatedFrom
   evaluate-none h = let l : to - i ≡ 0 = omega arith in rw l
 
-  module _ (r : Filled) (f : List ℕ) (is : Filled≡ r f (stored limit (tokenCells marks nums e i) k d)) (more : i < to) where
+  module _ (r : Filled) (f : List ℕ) (is : FilledOut r f (stored limit (tokenCells marks nums e i) k d)) (more : i < to) where
     pub evaluate-on : (next : ℕ) → r ≡ Done next → evaluatedFrom marks nums e limit (to - i) i k d ≡ evaluatedFrom marks nums e limit (to - (i + 1)) (i + 1) next f
     unfolding evaluatedFrom
     evaluate-on next q = let l : to - i ≡ suc (to - (i + 1)) = omega arith in rw (l, ← (is .0), q, is .1)
@@ -177,7 +177,7 @@ module _ (marks nums ends : List ℕ) (e : CellEnv) (limit p i : ℕ) (b : Count
     arguments-closed c = let l : length marks - p ≡ suc (length marks - (p + 1)) = omega arith in rw (l, eq-eqb (keyCell marks p) 4 c)
 
     module _ (unclosed : keyCell marks p ≡ 4 → ⊥) (to : ℕ) (ends-at : to ≡ argumentEnd marks ends i)
-        (r : Bound) (v2 t2 a2 : List ℕ) (is : Arguments≡ r v2 t2 a2 (boundArgument marks nums e limit p i to b v t a)) where
+        (r : Bound) (v2 t2 a2 : List ℕ) (is : ArgumentsOut r v2 t2 a2 (boundArgument marks nums e limit p i to b v t a)) where
       pub arguments-on : (next : Counts) → r ≡ Now next → boundFrom marks nums ends e limit (length marks - p) p i b v t a ≡ boundFrom marks nums ends e limit (length marks - (p + 1)) (p + 1) to next v2 t2 a2
       unfolding boundFrom
       arguments-on next q =

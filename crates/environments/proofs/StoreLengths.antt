@@ -52,7 +52,7 @@ ends-moved-length et j n from k d = pick (ltb (length et / 2) n) (ltb (length d 
 abbrev pub Kept : List ℕ → List ℕ → List ℕ → List ℕ → Type 0
 Kept v t v2 t2 = (length v2 ≡ length v) × (length t2 ≡ length t)
 
-table-kept : (f : ℕ → CopyAnswer) (v t : List ℕ) → ((k : ℕ) → length (f k .cells) ≡ length t) → (a : Filled) → Kept v t (withTable f v t a .ev) (withTable f v t a .et)
+pub table-kept : (f : ℕ → CopyAnswer) (v t : List ℕ) → ((k : ℕ) → length (f k .cells) ≡ length t) → (a : Filled) → Kept v t (withTable f v t a .ev) (withTable f v t a .et)
 table-kept f v t e (Done k) = pick (f k .done)
   where
     pick : (b : Bool) → Kept v t (tableDone b k v (f k .cells) .ev) (tableDone b k v (f k .cells) .et)
@@ -74,7 +74,7 @@ value-kept u x i k limit v t =
     let w = table-kept (λ next. storedEntry t i x (next % 65536)) (s .cells) t (λ next. entry-length t i x (next % 65536)) (s .answer) in
     (w .0 ∙ stored-length limit u k v, w .1)
 
-cells-kept : (next : ℕ → List ℕ → List ℕ → BoundAnswer) (v t : List ℕ) → ((k : ℕ) → Kept v t (next k v t .ev) (next k v t .et)) → (a : Filled) →
+pub cells-kept : (next : ℕ → List ℕ → List ℕ → BoundAnswer) (v t : List ℕ) → ((k : ℕ) → Kept v t (next k v t .ev) (next k v t .et)) → (a : Filled) →
     Kept v t (afterCells next v t a .ev) (afterCells next v t a .et)
 cells-kept next v t e (Done k) = e k
 cells-kept next v t e Over = (refl, refl)

@@ -25,8 +25,8 @@ pub record ArgumentAnswer : Type 0 where
   pub et : List ℕ
   pub av : List ℕ
 
-abbrev pub Arguments≡ : Bound → List ℕ → List ℕ → List ℕ → ArgumentAnswer → Type 0
-Arguments≡ r v t a w = (r ≡ w .answer) × (v ≡ w .ev) × (t ≡ w .et) × (a ≡ w .av)
+abbrev pub ArgumentsOut : Bound → List ℕ → List ℕ → List ℕ → ArgumentAnswer → Type 0
+ArgumentsOut r v t a w = (r ≡ w .answer) × (v ≡ w .ev) × (t ≡ w .et) × (a ≡ w .av)
 
 abbrev pub argumentAnswer : Bound → List ℕ → List ℕ → List ℕ → ArgumentAnswer
 argumentAnswer r v t a = record { answer = r; ev = v; et = t; av = a }

@@ -108,8 +108,8 @@ pub record BoundAnswer : Type 0 where
   pub ev : List ℕ
   pub et : List ℕ
 
-abbrev pub Bound≡ : Bound → List ℕ → List ℕ → BoundAnswer → Type 0
-Bound≡ r v t w = (r ≡ w .answer) × (v ≡ w .ev) × (t ≡ w .et)
+abbrev pub BoundOut : Bound → List ℕ → List ℕ → BoundAnswer → Type 0
+BoundOut r v t w = (r ≡ w .answer) × (v ≡ w .ev) × (t ≡ w .et)
 
 abbrev pub boundAnswer : Bound → List ℕ → List ℕ → BoundAnswer
 boundAnswer a v t = record { answer = a; ev = v; et = t }

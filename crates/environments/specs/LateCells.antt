@@ -52,8 +52,8 @@ pub record LateAnswer : Type 0 where
   pub late : List ℕ
   pub av : List ℕ
 
-abbrev pub Late≡ : Delayed → List ℕ → List ℕ → LateAnswer → Type 0
-Late≡ r l a w = (r ≡ w .answer) × (l ≡ w .late) × (a ≡ w .av)
+abbrev pub LateOut : Delayed → List ℕ → List ℕ → LateAnswer → Type 0
+LateOut r l a w = (r ≡ w .answer) × (l ≡ w .late) × (a ≡ w .av)
 
 abbrev pub lateAnswer : Delayed → List ℕ → List ℕ → LateAnswer
 lateAnswer r l a = record { answer = r; late = l; av = a }

@@ -12,11 +12,11 @@ use Rattle.sets.specs.declared.fill.Filled.{Filled}
 use Rattle.sets.specs.declared.fill.Filled.the-variants.{Done, Over}
 
 -- an answer beside what it leaves in a storage
-abbrev pub Filled≡ : Filled → List ℕ → FillAnswer → Type 0
-Filled≡ r d w = (r ≡ w .answer) × (d ≡ w .cells)
+abbrev pub FilledOut : Filled → List ℕ → FillAnswer → Type 0
+FilledOut r d w = (r ≡ w .answer) × (d ≡ w .cells)
 
-abbrev pub Copied≡ : Bool → List ℕ → CopyAnswer → Type 0
-Copied≡ r d w = (r ≡ w .done) × (d ≡ w .cells)
+abbrev pub CopiedOut : Bool → List ℕ → CopyAnswer → Type 0
+CopiedOut r d w = (r ≡ w .done) × (d ≡ w .cells)
 
 unfoldable pub stored : ℕ → List ℕ → ℕ → List ℕ → FillAnswer
 stored limit v k d =

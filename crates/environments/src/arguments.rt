@@ -10,7 +10,7 @@ use sets::cell;
 use sets::fill::Filled;
 ghost use mathlib.Core.Path.{_≡_};
 ghost use Rattle.environments.specs.ValueCells.{environment};
-ghost use Rattle.environments.specs.ArgumentCells.{argumentEnd, Arguments≡, boundArgument, boundArguments};
+ghost use Rattle.environments.specs.ArgumentCells.{argumentEnd, ArgumentsOut, boundArgument, boundArguments};
 
 // The index past the expression at i: `ends` has that of each bracket.
 pub fn argument_end(marks: &[u16], ends: &[u16], i: usize) -> usize
@@ -42,7 +42,7 @@ fn bind_argument(
     b: Counts,
     limit: usize,
 ) -> Bound
-    ensures { λ r. ⌜ Arguments≡ r (now (ev2 .exit)) (now (et2 .exit)) (now (av2 .exit)) (boundArgument (now (marks .entry)) (now (nums .entry)) (environment (now (ev .entry)) (now (et .entry)) (now (av .entry)) c) limit p i to b (now (ev2 .entry)) (now (et2 .entry)) (now (av2 .entry))) ⌝ }
+    ensures { λ r. ⌜ ArgumentsOut r (now (ev2 .exit)) (now (et2 .exit)) (now (av2 .exit)) (boundArgument (now (marks .entry)) (now (nums .entry)) (environment (now (ev .entry)) (now (et .entry)) (now (av .entry)) c) limit p i to b (now (ev2 .entry)) (now (et2 .entry)) (now (av2 .entry))) ⌝ }
 {
     let name = cell::cell(nums, p);
     if value::kind(marks, p) == ANAME {
@@ -86,7 +86,7 @@ pub fn bind_arguments(
     av2: &mut [u16],
     limit: usize,
 ) -> Bound
-    ensures { λ r. ⌜ Arguments≡ r (now (ev2 .exit)) (now (et2 .exit)) (now (av2 .exit)) (boundArguments (now (marks .entry)) (now (nums .entry)) (now (ends .entry)) (environment (now (ev .entry)) (now (et .entry)) (now (av .entry)) c) limit p i (now (ev2 .entry)) (now (et2 .entry)) (now (av2 .entry))) ⌝ }
+    ensures { λ r. ⌜ (let w = boundArguments (now (marks .entry)) (now (nums .entry)) (now (ends .entry)) (environment (now (ev .entry)) (now (et .entry)) (now (av .entry)) c) limit p i (now (ev2 .entry)) (now (et2 .entry)) (now (av2 .entry)) in (r ≡ w .answer) × (now (ev2 .exit) ≡ w .ev) × (now (et2 .exit) ≡ w .et) × (now (av2 .exit) ≡ w .av)) ⌝ }
 {
     let mut b = Counts {
         es: 0,

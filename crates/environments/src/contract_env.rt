@@ -8,7 +8,7 @@ use sets::fill;
 use sets::fill::Filled;
 ghost use mathlib.Core.Path.{_≡_};
 ghost use Rattle.sets.specs.Fill.{renamed};
-ghost use Rattle.environments.specs.EnvironmentCells.{Bound≡, PairOut};
+ghost use Rattle.environments.specs.EnvironmentCells.{PairOut};
 ghost use Rattle.environments.specs.ContractionCells.{renamedValues, filledEntry, filledEntries};
 
 // Each x among the values of the first n entries becomes y, in its place: "the names stay".
@@ -70,7 +70,7 @@ pub fn bind_tree(
     et2: &mut [u16],
     limit: usize,
 ) -> Bound
-    ensures { λ r. ⌜ Bound≡ r (now (ev2 .exit)) (now (et2 .exit)) (filledEntries (now (ev .entry)) (now (et .entry)) c x (now (val .entry)) limit (now (ev2 .entry)) (now (et2 .entry))) ⌝ }
+    ensures { λ r. ⌜ (let w = filledEntries (now (ev .entry)) (now (et .entry)) c x (now (val .entry)) limit (now (ev2 .entry)) (now (et2 .entry)) in (r ≡ w .answer) × (now (ev2 .exit) ≡ w .ev) × (now (et2 .exit) ≡ w .et)) ⌝ }
 {
     let n = c.es;
     let mut k: usize = 0;

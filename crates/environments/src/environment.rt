@@ -8,8 +8,8 @@ ghost use mathlib.Core.Path.{_≡_};
 ghost use Prim.Native.Nat.{_+_, _*_};
 ghost use lib.ListN.{getD};
 ghost use Rattle.sets.specs.Cells.{part};
-ghost use Rattle.environments.specs.Storing.{Filled≡, Copied≡};
-ghost use Rattle.environments.specs.EnvironmentCells.{Bound≡, findCells, startAt, atomicOf, updatedA, movedEnd, movedEnds, PairOut, copiedEntries, storedValue, appendedE, updatedE};
+ghost use Rattle.environments.specs.Storing.{CopiedOut};
+ghost use Rattle.environments.specs.EnvironmentCells.{findCells, startAt, atomicOf, updatedA, movedEnd, movedEnds, PairOut, copiedEntries, storedValue, appendedE, updatedE};
 
 // How much of the storages is in use: the names in et, the cells in ev, the names in av.
 pub struct Counts {
@@ -81,7 +81,7 @@ pub(crate) fn value_a(av: &[u16], n: usize, name: u16) -> u16
 
 // Binds an `a.` name, in place: "A name bound again replaces the earlier one." Done: the names there are now.
 pub fn update_a(av: &mut [u16], n: usize, name: u16, code: u16) -> Filled
-    ensures { λ r. ⌜ Filled≡ r (now (av .exit)) (updatedA (now (av .entry)) n name code) ⌝ }
+    ensures { λ r. ⌜ (let w = updatedA (now (av .entry)) n name code in (r ≡ w .answer) × (now (av .exit) ≡ w .cells)) ⌝ }
 {
     let i = find(av, n, name);
     if !store::store_entry(av, i, name, code) {
@@ -106,7 +106,7 @@ fn moved_end(e: u16, from: usize, k: usize) -> u16
 
 // The entries from j up to n, at the same places, with their ends moved so.
 fn move_ends(et: &[u16], j: usize, n: usize, from: usize, k: usize, et2: &mut [u16]) -> bool
-    ensures { λ r. ⌜ Copied≡ r (now (et2 .exit)) (movedEnds (now (et .entry)) j n from k (now (et2 .entry))) ⌝ }
+    ensures { λ r. ⌜ CopiedOut r (now (et2 .exit)) (movedEnds (now (et .entry)) j n from k (now (et2 .entry))) ⌝ }
 {
     if et.len() / 2 < n {
         return false;
@@ -184,7 +184,7 @@ pub fn append_e(
     to: usize,
     limit: usize,
 ) -> Bound
-    ensures { λ r. ⌜ Bound≡ r (now (ev .exit)) (now (et .exit)) (appendedE (now (ev .entry)) (now (et .entry)) c name (part from to (now (val .entry))) limit) ⌝ }
+    ensures { λ r. ⌜ (let w = appendedE (now (ev .entry)) (now (et .entry)) c name (part from to (now (val .entry))) limit in (r ≡ w .answer) × (now (ev .exit) ≡ w .ev) × (now (et .exit) ≡ w .et)) ⌝ }
 {
     let n = c.es;
     if et.len() / 2 <= n {
@@ -215,7 +215,7 @@ pub fn update_e(
     et2: &mut [u16],
     limit: usize,
 ) -> Bound
-    ensures { λ r. ⌜ Bound≡ r (now (ev2 .exit)) (now (et2 .exit)) (updatedE (now (ev .entry)) (now (et .entry)) c name (part from to (now (val .entry))) limit (now (ev2 .entry)) (now (et2 .entry))) ⌝ }
+    ensures { λ r. ⌜ (let w = updatedE (now (ev .entry)) (now (et .entry)) c name (part from to (now (val .entry))) limit (now (ev2 .entry)) (now (et2 .entry)) in (r ≡ w .answer) × (now (ev2 .exit) ≡ w .ev) × (now (et2 .exit) ≡ w .et)) ⌝ }
 {
     let i = find(et, c.es, name);
     let before = copy_entries(ev, et, 0, i, ev2, et2, 0, limit);

@@ -14,9 +14,9 @@ use sets::cell;
 use sets::fill::Filled;
 ghost use mathlib.Core.Path.{_≡_};
 ghost use Prim.Native.Nat.{_-_};
-ghost use Rattle.environments.specs.Storing.{Filled≡};
+ghost use Rattle.environments.specs.Storing.{FilledOut};
 ghost use Rattle.environments.specs.ValueCells.{environment};
-ghost use Rattle.environments.specs.LateCells.{lateValue, lateToken, evaluatedLate, Late≡, lateArgument, lateArguments};
+ghost use Rattle.environments.specs.LateCells.{lateValue, lateToken, evaluatedLate, LateOut, lateArgument, lateArguments};
 
 // How many names stand in `late`, and how many in the table of `a.` names.
 pub struct Late {
@@ -44,7 +44,7 @@ fn store_late(
     at: usize,
     limit: usize,
 ) -> Filled
-    ensures { λ r. ⌜ Filled≡ r (now (dst .exit)) (lateValue (now (marks .entry)) (now (nums .entry)) (now (ends .entry)) (environment (now (ev .entry)) (now (et .entry)) (now (av .entry)) c) limit from at (now (dst .entry))) ⌝ }
+    ensures { λ r. ⌜ FilledOut r (now (dst .exit)) (lateValue (now (marks .entry)) (now (nums .entry)) (now (ends .entry)) (environment (now (ev .entry)) (now (et .entry)) (now (av .entry)) c) limit from at (now (dst .entry))) ⌝ }
 {
     let to = argument_end(marks, ends, from);
     value::evaluate(marks, nums, from, to, ev, et, av, c, dst, at, limit)
@@ -69,7 +69,7 @@ fn store_late_token(
     at: usize,
     limit: usize,
 ) -> Filled
-    ensures { λ r. ⌜ Filled≡ r (now (dst .exit)) (lateToken (now (marks .entry)) (now (nums .entry)) (now (ends .entry)) (now (late .entry)) n (now (av2 .entry)) b (environment (now (ev .entry)) (now (et .entry)) (now (av .entry)) c) limit i at (now (dst .entry))) ⌝ }
+    ensures { λ r. ⌜ FilledOut r (now (dst .exit)) (lateToken (now (marks .entry)) (now (nums .entry)) (now (ends .entry)) (now (late .entry)) n (now (av2 .entry)) b (environment (now (ev .entry)) (now (et .entry)) (now (av .entry)) c) limit i at (now (dst .entry))) ⌝ }
 {
     if value::kind(marks, i) == ENAME {
         let j = environment::find(late, n, cell::cell(nums, i));
@@ -101,7 +101,7 @@ pub fn evaluate_late(
     at: usize,
     limit: usize,
 ) -> Filled
-    ensures { λ r. ⌜ Filled≡ r (now (dst .exit)) (evaluatedLate (now (marks .entry)) (now (nums .entry)) (now (ends .entry)) (now (late .entry)) n (now (av2 .entry)) b (environment (now (ev .entry)) (now (et .entry)) (now (av .entry)) c) limit (to - from) from at (now (dst .entry))) ⌝ }
+    ensures { λ r. ⌜ (let w = evaluatedLate (now (marks .entry)) (now (nums .entry)) (now (ends .entry)) (now (late .entry)) n (now (av2 .entry)) b (environment (now (ev .entry)) (now (et .entry)) (now (av .entry)) c) limit (to - from) from at (now (dst .entry)) in (r ≡ w .answer) × (now (dst .exit) ≡ w .cells)) ⌝ }
 {
     let mut k = at;
     let mut i = from;
@@ -148,7 +148,7 @@ fn delay_argument(
     av2: &mut [u16],
     b: Late,
 ) -> Delayed
-    ensures { λ r. ⌜ Late≡ r (now (late .exit)) (now (av2 .exit)) (lateArgument (now (marks .entry)) (now (nums .entry)) (now (av .entry)) xs p i b (now (late .entry)) (now (av2 .entry))) ⌝ }
+    ensures { λ r. ⌜ LateOut r (now (late .exit)) (now (av2 .exit)) (lateArgument (now (marks .entry)) (now (nums .entry)) (now (av .entry)) xs p i b (now (late .entry)) (now (av2 .entry))) ⌝ }
 {
     let name = cell::cell(nums, p);
     if value::kind(marks, p) == ANAME {
@@ -182,7 +182,7 @@ pub fn delay_arguments(
     late: &mut [u16],
     av2: &mut [u16],
 ) -> Delayed
-    ensures { λ r. ⌜ Late≡ r (now (late .exit)) (now (av2 .exit)) (lateArguments (now (marks .entry)) (now (nums .entry)) (now (ends .entry)) (now (av .entry)) xs p i (now (late .entry)) (now (av2 .entry))) ⌝ }
+    ensures { λ r. ⌜ (let w = lateArguments (now (marks .entry)) (now (nums .entry)) (now (ends .entry)) (now (av .entry)) xs p i (now (late .entry)) (now (av2 .entry)) in (r ≡ w .answer) × (now (late .exit) ≡ w .late) × (now (av2 .exit) ≡ w .av)) ⌝ }
 {
     let mut b = Late { es: 0, xs: 0 };
     let mut q = p;

@@ -5,7 +5,7 @@ ghost use mathlib.Core.Path.{_≡_};
 ghost use mathlib.Core.List.{List, [], _∷_};
 ghost use Prim.Native.Nat.{_%_};
 ghost use Rattle.sets.specs.Cells.{part};
-ghost use Rattle.environments.specs.Storing.{Copied≡, Filled≡, stored, storedEntry};
+ghost use Rattle.environments.specs.Storing.{stored, storedEntry};
 
 // A number as a cell: those that a storage counts are below 65,536.
 pub fn cell_of(n: usize) -> u16
@@ -29,7 +29,7 @@ pub fn store_run(
     at: usize,
     limit: usize,
 ) -> Filled
-    ensures { λ r. ⌜ Filled≡ r (now (dst .exit)) (stored limit (part from to (now (src .entry))) at (now (dst .entry))) ⌝ }
+    ensures { λ r. ⌜ (let w = stored limit (part from to (now (src .entry))) at (now (dst .entry)) in (r ≡ w .answer) × (now (dst .exit) ≡ w .cells)) ⌝ }
 {
     let room = cell::least(limit, dst.len());
     if room < at {
@@ -49,7 +49,7 @@ pub fn store_run(
 
 // The same of one cell.
 pub fn store_cell(x: u16, dst: &mut [u16], at: usize, limit: usize) -> Filled
-    ensures { λ r. ⌜ Filled≡ r (now (dst .exit)) (stored limit (x ∷ []) at (now (dst .entry))) ⌝ }
+    ensures { λ r. ⌜ (let w = stored limit (x ∷ []) at (now (dst .entry)) in (r ≡ w .answer) × (now (dst .exit) ≡ w .cells)) ⌝ }
 {
     let room = cell::least(limit, dst.len());
     if room <= at {
@@ -61,7 +61,7 @@ pub fn store_cell(x: u16, dst: &mut [u16], at: usize, limit: usize) -> Filled
 
 // The entry i of a table, if it has one.
 pub fn store_entry(table: &mut [u16], i: usize, name: u16, x: u16) -> bool
-    ensures { λ r. ⌜ Copied≡ r (now (table .exit)) (storedEntry (now (table .entry)) i name x) ⌝ }
+    ensures { λ r. ⌜ (let w = storedEntry (now (table .entry)) i name x in (r ≡ w .done) × (now (table .exit) ≡ w .cells)) ⌝ }
 {
     if table.len() / 2 <= i {
         return false;

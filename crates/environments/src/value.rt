@@ -13,7 +13,7 @@ use sets::fill::Filled;
 ghost use mathlib.Core.Path.{_≡_};
 ghost use Prim.Native.Nat.{_/_, _%_};
 ghost use lib.ListN.{getD};
-ghost use Rattle.environments.specs.Storing.{Filled≡, stored};
+ghost use Rattle.environments.specs.Storing.{FilledOut, stored};
 ghost use Rattle.environments.specs.ValueCells.{environment, valueOf, tokenCells, atomicCell, evaluated};
 
 // The token's place among the fixed words.
@@ -40,7 +40,7 @@ fn store_name(
     at: usize,
     limit: usize,
 ) -> Filled
-    ensures { λ r. ⌜ Filled≡ r (now (dst .exit)) (stored limit (valueOf (now (ev .entry)) (now (et .entry)) es name) at (now (dst .entry))) ⌝ }
+    ensures { λ r. ⌜ FilledOut r (now (dst .exit)) (stored limit (valueOf (now (ev .entry)) (now (et .entry)) es name) at (now (dst .entry))) ⌝ }
 {
     let i = environment::find(et, es, name);
     if cell::least(es, et.len() / 2) <= i {
@@ -64,7 +64,7 @@ pub(crate) fn store_token(
     at: usize,
     limit: usize,
 ) -> Filled
-    ensures { λ r. ⌜ Filled≡ r (now (dst .exit)) (stored limit (tokenCells (now (marks .entry)) (now (nums .entry)) (environment (now (ev .entry)) (now (et .entry)) (now (av .entry)) c) i) at (now (dst .entry))) ⌝ }
+    ensures { λ r. ⌜ FilledOut r (now (dst .exit)) (stored limit (tokenCells (now (marks .entry)) (now (nums .entry)) (environment (now (ev .entry)) (now (et .entry)) (now (av .entry)) c) i) at (now (dst .entry))) ⌝ }
 {
     let name = cell::cell(nums, i);
     if key(marks, i) == CONS {
@@ -98,7 +98,7 @@ pub fn evaluate(
     at: usize,
     limit: usize,
 ) -> Filled
-    ensures { λ r. ⌜ Filled≡ r (now (dst .exit)) (evaluated (now (marks .entry)) (now (nums .entry)) (environment (now (ev .entry)) (now (et .entry)) (now (av .entry)) c) limit from to at (now (dst .entry))) ⌝ }
+    ensures { λ r. ⌜ (let w = evaluated (now (marks .entry)) (now (nums .entry)) (environment (now (ev .entry)) (now (et .entry)) (now (av .entry)) c) limit from to at (now (dst .entry)) in (r ≡ w .answer) × (now (dst .exit) ≡ w .cells)) ⌝ }
 {
     let mut k = at;
     let mut i = from;

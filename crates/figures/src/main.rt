@@ -1,16 +1,16 @@
-// Runs programs forwards: the matcher of figure 11 of 001 and others. It reads cases from standard input, three lines each,
+// The figures of 001 and the cases of 01, run forwards and listed. It reads cases from standard input, three lines each,
 //
 //     # TITLE
 //     P: the program's text
-//     J: the job's text
+//     R: the job's text, for a run, or L: the job's text, for a listing
 //
-// and prints for each the title and the line of the run: `value STEPS EXPR`, `stop21`, `notwithin` or the refusal.
+// and prints the title and what 01 has printed. The lent storages are full of garbage before each.
 use libc::STDIN_FILENO;
 use libc::STDOUT_FILENO;
+use print::list::print_list;
 use print::ran::print_run;
-use resolve::run::ANSWER;
-use resolve::run::WORK;
-use resolve::run::run;
+use resolve::list;
+use resolve::run;
 ghost use Prim.Native.Nat.{_≤_, min};
 ghost use lib.ListN.{length};
 
@@ -43,19 +43,36 @@ fn line_end(text: &[u8], from: usize) -> usize
     text.len()
 }
 
-// The storages are full of garbage before the run.
-fn answer(title: &[u8], program: &[u8], job: &[u8]) {
-    let mut work_space = [43981u16; WORK];
-    let mut answer_space = [43981u16; ANSWER];
+fn run_case(program: &[u8], job: &[u8]) {
+    let mut work_space = [43981u16; run::WORK];
+    let mut answer_space = [43981u16; run::ANSWER];
     let work: &mut [u16] = &mut work_space;
     let answer: &mut [u16] = &mut answer_space;
     let mut page = io::large_buffer();
     let out: &mut [u8] = &mut page;
-    let said = run(program, job, work, answer);
+    let said = run::run(program, job, work, answer);
     let n = print_run(program, job, said, answer, 0, out);
-    io::write_all(STDOUT_FILENO, title);
-    io::write_all(STDOUT_FILENO, b": ");
     io::write_all(STDOUT_FILENO, part(out, 0, n));
+}
+
+fn list_case(program: &[u8], job: &[u8]) {
+    let mut work_space = [43981u16; list::WORK];
+    let mut answer_space = [43981u16; list::ANSWER];
+    let work: &mut [u16] = &mut work_space;
+    let answer: &mut [u16] = &mut answer_space;
+    let mut page = io::large_buffer();
+    let out: &mut [u8] = &mut page;
+    let said = list::list(program, job, work, answer);
+    let n = print_list(program, job, said, answer, 0, out);
+    io::write_all(STDOUT_FILENO, part(out, 0, n));
+}
+
+// Whether the job's line asks for a listing.
+fn lists(line: &[u8]) -> bool {
+    if line.len() == 0 {
+        return false;
+    }
+    line[0] == b'L'
 }
 
 fn answers(text: &[u8]) {
@@ -64,11 +81,15 @@ fn answers(text: &[u8]) {
         let t = line_end(text, from);
         let p = line_end(text, t + 1);
         let j = line_end(text, p + 1);
-        answer(
-            part(text, from + 2, t),
-            part(text, t + 4, p),
-            part(text, p + 4, j),
-        );
+        io::write_all(STDOUT_FILENO, part(text, from, t));
+        io::write_all(STDOUT_FILENO, b"\n");
+        let program = part(text, t + 4, p);
+        let job = part(text, p + 4, j);
+        if lists(part(text, p + 1, j)) {
+            list_case(program, job);
+        } else {
+            run_case(program, job);
+        }
         from = j + 1;
     }
 }

@@ -21,7 +21,6 @@ use Rattle.language.specs.Tokens.{Text, ofProgram, ofJob, tokens, symbol
 use Rattle.language.specs.Reader.{Res, ok, refused, andThen, unlessFault, Reader}
 use Rattle.language.specs.Source.{SExp, symS, evarS, avarS, pairS, eqaS, conspS, STerm, callS, conditionalS, resultS, SParam, SDef, SProg, SJob, exp, exps, placeOf, term, params, defs, functions, progOf, prog, class}
 use Rattle.language.specs.Grammar.{program, jobText}
-use Rattle.expressions.proofs.Tests.{and-both, eqb-same}
 use Rattle.language.specs.ProgramCheck.{paramsTwice, conditionTwice, termTwice, defsTwice, reachE, reachEa, reachArgs, callVerdict, termVerdict, defsVerdict, programVerdict}
 use Rattle.language.specs.JobCheck.{Tool, runner, groundVerdict, variables, kindsVerdict, inputsVerdict, sidesVerdict, atMost, boundsVerdict, jobVerdict}
 use Rattle.language.specs.Reading.{readText, readProgram, readJob, accepted, rejected, withJob, withProgram, reading}

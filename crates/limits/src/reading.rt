@@ -1,12 +1,12 @@
 // Both readers on the two texts of a case. The storages that they are lent are filled beforehand, and looked at afterwards.
 use crate::storage::FILLED;
 use crate::storage::left_sound;
-use syntax::read::NAMES;
-use syntax::read::Read;
-use syntax::read::SYMBOLS;
-use syntax::read::TOKENS;
-use syntax::read_job::read_job;
-use syntax::read_program::read_program;
+use texts::read::NAMES;
+use texts::read::Read;
+use texts::read::SYMBOLS;
+use texts::read::TOKENS;
+use texts::read_job::read_job;
+use texts::read_program::read_program;
 
 // What was said of the text that was read last, whether that is the job, and whether the storages are as they must be. `program` is how
 // many tokens are stored of a program that was accepted.

@@ -3,9 +3,9 @@ use crate::reading::Said;
 use crate::reading::said_of_job;
 use crate::reading::said_of_program;
 use crate::storage::FILLED;
-use syntax::read::NAMES;
-use syntax::read::SYMBOLS;
-use syntax::read::TOKENS;
+use texts::read::NAMES;
+use texts::read::SYMBOLS;
+use texts::read::TOKENS;
 
 const FEW_TOKENS: usize = TOKENS - 1;
 

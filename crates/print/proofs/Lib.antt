@@ -7,4 +7,6 @@ pub mod BindingLaws
 pub mod LineLaws
 pub mod OutcomeLaws
 pub mod NameLaws
+pub mod ListTurns
 pub mod PrintedTexts
+pub mod Printed

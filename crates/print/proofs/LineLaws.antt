@@ -5,6 +5,7 @@ use mathlib.Core.List.{List, [], _∷_, _++_, append-assoc}
 use native.Mathlib.Omega.{arith}
 use lib.ListN.{length, getD, take, drop, length-append}
 use lib.Seq.{take-at, drop-at, drop-drop}
+use Rattle.expressions.specs.Expression.{nodes, nodesAll}
 use Rattle.expressions.specs.Restriction.{Restriction}
 use Rattle.expressions.specs.Class.{IOClass}
 use Rattle.language.specs.Words.{Word}
@@ -14,8 +15,9 @@ use Rattle.semantics.specs.Tree.{Line}
 use Rattle.semantics.specs.Walk.{Walked, wordOf, linesOf, countOf}
 use Rattle.listing.specs.Print.{digits, printRestriction, printLine, printLines, printWord, printListing}
 use Rattle.sets.specs.Cells.{cells, cellsAll, restrictionCells, part}
+use Rattle.sets.proofs.CellLaws.{cells-nodes, cellsAll-nodes}
 use Rattle.print.specs.declared.list.Ending.{Ending}
-use Rattle.print.specs.LineCells.{pairCells, lineCells, linesCells}
+use Rattle.lines.specs.LineCells.{pairCells, lineCells, linesCells}
 use Rattle.print.specs.LineText.{bindingsText, nonEqualityText, restrictionText, classEnd, lineEnd, lineText, linesText}
 use Rattle.print.specs.ListingText.{endingWord, firstText, listingText}
 use Rattle.print.proofs.TreeLaws.{leaf-atomic}
@@ -52,8 +54,18 @@ module _ (s a b q : ℕ) (X Q rest : List ℕ) (size : length X ≡ a + b) (side
       ∙ ap (drop (length X + length Q)) (inv (append-assoc X Q rest)) ∙ drop-at (X ++ Q) rest (length X + length Q) (length-append X Q)
 
 -- the sizes in the head of a line are those of its parts
-pair-size : (L : Line) → length (pairCells (L .class .con)) ≡ length (cellsAll (L .class .con .ins)) + length (cells (L .class .con .out))
-pair-size L = length-append (cellsAll (L .class .con .ins)) (cells (L .class .con .out))
+pair-size : (L : Line) → length (pairCells (L .class .con)) ≡ nodesAll (L .class .con .ins) + nodes (L .class .con .out)
+pair-size L =
+    let p = L .class .con in
+    length-append (cellsAll (p .ins)) (cells (p .out)) ∙ ap₂ (λ (x y : ℕ). x + y) (cellsAll-nodes (p .ins)) (cells-nodes (p .out))
+
+abbrev lineOf : Line → List ℕ → List ℕ
+lineOf L rest = let P = L .class in line (L .steps) (nodesAll (P .con .ins)) (nodes (P .con .out)) (length (P .neqs)) (pairCells (P .con)) (restrictionCells (P .neqs)) rest (pair-size L) (restriction-cells (P .neqs))
+
+line-form : (L : Line) (rest : List ℕ) → lineCells L ++ rest ≡ lineOf L rest
+line-form L rest =
+    let P = L .class in
+    ap (λ (x : List ℕ). L .steps ∷ nodesAll (P .con .ins) ∷ nodes (P .con .out) ∷ length (P .neqs) ∷ (x ++ rest)) (inv (append-assoc (cellsAll (P .con .ins)) (cells (P .con .out)) (restrictionCells (P .neqs))))
 
 module _ (ns : List Word) (name : ℕ → List ℕ) (named : (z : ℕ) → name z ≡ 39 ∷ getD ns z []) where
   pub restriction-printed : (qs : Restriction) → restrictionText name (restrictionCells qs) ≡ printRestriction ns qs
@@ -68,14 +80,14 @@ module _ (ns : List Word) (name : ℕ → List ℕ) (named : (z : ℕ) → name 
     abbrev vars : List ℕ
     vars = pairCells (j .con)
 
-    pub line-printed : (i : ℕ) (L : Line) (rest : List ℕ) → InstanceOf j (L .class) → lineText name vars i (lineCells L ++ rest) ≡ printLine ns (j .con) i L
+    line-printed : (i : ℕ) (L : Line) (rest : List ℕ) → InstanceOf j (L .class) → lineText name vars i (lineOf L rest) ≡ printLine ns (j .con) i L
     unfolding lineText
     line-printed i L rest is =
         let f = instance-fits j (L .class) is in
         let X = pairCells (L .class .con) in
         let Q = restrictionCells (L .class .neqs) in
-        let a = length (cellsAll (L .class .con .ins)) in
-        let b = length (cells (L .class .con .out)) in
+        let a = nodesAll (L .class .con .ins) in
+        let b = nodes (L .class .con .out) in
         let c = line-class (L .steps) a b (length (L .class .neqs)) X Q rest (pair-size L) (restriction-cells (L .class .neqs)) in
         let d = line-sides (L .steps) a b (length (L .class .neqs)) X Q rest (pair-size L) (restriction-cells (L .class .neqs)) in
         ap₂ (λ (x y : List ℕ). (digits i ++ (32 ∷ digits (L .steps))) ++ x ++ y ++ (10 ∷ []))
@@ -88,8 +100,8 @@ module _ (ns : List Word) (name : ℕ → List ℕ) (named : (z : ℕ) → name 
     lines-printed [] i k rest e is = refl
     lines-printed (L ∷ Ls) i k rest e is =
         let n : suc k ≡ (i + 1) + 1 = omega arith in
-        let l : (lineCells L ++ linesCells Ls) ++ rest ≡ lineCells L ++ (linesCells Ls ++ rest) = append-assoc (lineCells L) (linesCells Ls) rest in
-        let behind = line-behind (L .steps) (length (cellsAll (L .class .con .ins))) (length (cells (L .class .con .out))) (length (L .class .neqs)) (pairCells (L .class .con)) (restrictionCells (L .class .neqs))
+        let l : (lineCells L ++ linesCells Ls) ++ rest ≡ lineOf L (linesCells Ls ++ rest) = append-assoc (lineCells L) (linesCells Ls) rest ∙ line-form L (linesCells Ls ++ rest) in
+        let behind = line-behind (L .steps) (nodesAll (L .class .con .ins)) (nodes (L .class .con .out)) (length (L .class .neqs)) (pairCells (L .class .con)) (restrictionCells (L .class .neqs))
         (linesCells Ls ++ rest) (pair-size L) (restriction-cells (L .class .neqs)) in
         ap (λ (x : List ℕ). lineText name vars (i + 1) x ++ linesText name vars (length Ls) (i + 1) (drop (lineEnd x) x)) l
         ∙ ap₂ (λ (x y : List ℕ). x ++ y)

@@ -16,7 +16,7 @@ use Rattle.listing.specs.Text.{letterOf, printRefusal, printAnswer, printRan, l
 use Rattle.lexer.specs.Lexed.{State}
 use Rattle.syntax.proofs.JobRead.{JobStored}
 use Rattle.print.specs.declared.list.Ending.{Ending}
-use Rattle.print.specs.LineCells.{pairCells, linesCells}
+use Rattle.lines.specs.LineCells.{pairCells, linesCells}
 use Rattle.print.specs.TreeText.{symbolText}
 use Rattle.print.specs.ListingText.{endingWord, listingText}
 use Rattle.print.specs.OutcomeText.{outcomeText}

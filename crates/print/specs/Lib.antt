@@ -3,6 +3,6 @@ pub mod TreeText
 pub mod LineText
 pub mod ListingText
 pub mod OutcomeText
-pub mod LineCells
 pub mod Names
 pub mod RanText
+pub mod ListedText

@@ -1,17 +1,25 @@
-// The text of a listing.
+// The text of a listing, from the two texts and from what `resolve::list` answered and left.
 use crate::line::put_lines;
 use crate::line::put_numbers;
 use crate::parts::front;
+use crate::refusal::print_refusal;
 use crate::sink;
 use crate::sink::Place;
+use resolve::list::Answer;
+use sets::intersection;
+use texts::both::Both;
+use texts::both::read_both;
+use transitions::start::Laid;
+use transitions::start::lay_job;
 ghost use mathlib.Core.Path.{_≡_};
 ghost use Prim.Native.Nat.{_*_, _-_, min};
 ghost use lib.ListN.{length, take};
 ghost use Rattle.print.specs.Sink.{Wrote, windowed};
 ghost use Rattle.print.specs.TreeText.{symbolText};
 ghost use Rattle.print.specs.ListingText.{endingText, firstText, listingText};
+ghost use Rattle.print.specs.ListedText.{laidTerms, jobTerms, namedListing, listedText};
 
-pub enum Ending {
+enum Ending {
     Whole,
     Cut,
     Stop21,
@@ -52,7 +60,7 @@ fn put_first(out: &mut [u8], place: Place, word: Ending, lines: usize, count: us
 
 // The bytes of a listing's text from the byte `from` on, as many as `out` has room for, then zeros; how many they are. The job's inputs and
 // output stand in the first `all` cells of `io`, the lines one behind the other in `answer`.
-pub fn print_listing(
+fn print_listing(
     program: &[u8],
     job: &[u8],
     symbols: &[u16],
@@ -75,4 +83,141 @@ pub fn print_listing(
     let job_cells = front(io, all);
     let q = put_lines(out, p, program, job, table, job_cells, lines, answer);
     sink::written(q)
+}
+
+// How many symbols both texts have, and how many cells the job's inputs and output take.
+struct Terms {
+    symbols: u16,
+    cells: usize,
+}
+
+// The job's inputs and output, laid out in io again; q is spare. Nothing of texts that are refused.
+fn job_terms(both: Both, jmarks: &[u16], jnums: &[u16], io: &mut [u16], q: &mut [u16]) -> Terms
+    ensures { λ r. ⌜ (let w = jobTerms both (now (jmarks .entry)) (now (jnums .entry)) (now (io .entry)) (now (q .entry)) in (r ≡ w .terms) × (now (io .exit) ≡ w .io)) ⌝ }
+{
+    match both {
+        Both::Accepted {
+            count: _,
+            symbols,
+            parts,
+            numerals: _,
+        } => {
+            let laid = lay_job(jmarks, jnums, parts, io, q, intersection::NODES);
+            match laid {
+                Laid::Done(sizes) => Terms {
+                    symbols: symbols,
+                    cells: sizes.io,
+                },
+                Laid::Over => Terms {
+                    symbols: symbols,
+                    cells: 0,
+                },
+            }
+        }
+        Both::Program {
+            number: _,
+            offset: _,
+        } => Terms {
+            symbols: 0,
+            cells: 0,
+        },
+        Both::Job {
+            number: _,
+            offset: _,
+        } => Terms {
+            symbols: 0,
+            cells: 0,
+        },
+        Both::Short => Terms {
+            symbols: 0,
+            cells: 0,
+        },
+    }
+}
+
+// A listing, the symbols and variables by the two texts, which are read again.
+fn print_named(
+    program: &[u8],
+    job: &[u8],
+    word: Ending,
+    lines: usize,
+    count: usize,
+    cells: &[u16],
+    from: usize,
+    out: &mut [u8],
+) -> usize
+    ensures { λ r. ⌜ (let text = namedListing (now (program .entry)) (now (job .entry)) (now (cells .entry)) word lines count in (r ≡ min (length (now (out .entry))) (length text - from)) × (now (out .exit) ≡ windowed (length (now (out .entry))) from text)) ⌝ }
+{
+    let mut marks: [u16; 4097] = [0; 4097];
+    let mut nums: [u16; 4097] = [0; 4097];
+    let mut ends: [u16; 4097] = [0; 4097];
+    let mut heads: [u16; 64] = [0; 64];
+    let mut jmarks: [u16; 4097] = [0; 4097];
+    let mut jnums: [u16; 4097] = [0; 4097];
+    let mut symbols: [u16; 2048] = [0; 2048];
+    let mut work: [u16; 8194] = [0; 8194];
+    let mut io: [u16; 4096] = [0; 4096];
+    let mut q: [u16; 4096] = [0; 4096];
+    let both = read_both(
+        false,
+        program,
+        job,
+        &mut marks,
+        &mut nums,
+        &mut ends,
+        &mut heads,
+        &mut jmarks,
+        &mut jnums,
+        &mut symbols,
+        &mut work,
+    );
+    let terms = job_terms(both, &jmarks, &jnums, &mut io, &mut q);
+    print_listing(
+        program,
+        job,
+        &symbols,
+        terms.symbols,
+        &io,
+        terms.cells,
+        word,
+        lines,
+        count,
+        cells,
+        from,
+        out,
+    )
+}
+
+// The bytes of the listing's text from the byte `from` on, as many as `out` has room for, then zeros; how many they are. `cells` is the
+// answer storage that `list` left.
+pub fn print_list(
+    program: &[u8],
+    job: &[u8],
+    answer: Answer,
+    cells: &[u16],
+    from: usize,
+    out: &mut [u8],
+) -> usize
+    ensures { λ r. ⌜ (let text = listedText (now (program .entry)) (now (job .entry)) (now (cells .entry)) answer in (r ≡ min (length (now (out .entry))) (length text - from)) × (now (out .exit) ≡ windowed (length (now (out .entry))) from text)) ⌝ }
+{
+    match answer {
+        Answer::Whole { lines, count } => {
+            print_named(program, job, Ending::Whole, lines, count, cells, from, out)
+        }
+        Answer::Cut { lines, count } => {
+            print_named(program, job, Ending::Cut, lines, count, cells, from, out)
+        }
+        Answer::Stop21 { lines, count } => {
+            print_named(program, job, Ending::Stop21, lines, count, cells, from, out)
+        }
+        Answer::Stop22 { lines, count } => {
+            print_named(program, job, Ending::Stop22, lines, count, cells, from, out)
+        }
+        Answer::Stop23 { lines, count } => {
+            print_named(program, job, Ending::Stop23, lines, count, cells, from, out)
+        }
+        Answer::Program { number, offset } => print_refusal(b'p', number, offset, from, out),
+        Answer::Job { number, offset } => print_refusal(b'j', number, offset, from, out),
+        Answer::Short => print_refusal(b'-', 20, 0, from, out),
+    }
 }

@@ -12,7 +12,7 @@ ghost use Rattle.print.specs.TreeText.{symbolText};
 ghost use Rattle.print.specs.OutcomeText.{valueText, outcomeText};
 
 // The value has `length` cells.
-pub enum Outcome {
+pub(crate) enum Outcome {
     Value { steps: usize, length: usize },
     Over,
     NotWithin,
@@ -63,7 +63,7 @@ fn put_outcome(
 
 // The bytes of a run's text from the byte `from` on, as many as `out` has room for, then zeros; how many they are. The value stands in the
 // first cells of `answer`.
-pub fn print_outcome(
+pub(crate) fn print_outcome(
     program: &[u8],
     job: &[u8],
     symbols: &[u16],

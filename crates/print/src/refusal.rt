@@ -21,7 +21,13 @@ fn put_refusal(out: &mut [u8], place: Place, letter: u8, number: usize, offset: 
 
 // The bytes of the line from the byte `from` on, as many as `out` has room for, then zeros; how many they are. "one that falls on neither
 // text prints `-` for the letter and offset 0"
-pub fn print_refusal(letter: u8, number: usize, offset: usize, from: usize, out: &mut [u8]) -> usize
+pub(crate) fn print_refusal(
+    letter: u8,
+    number: usize,
+    offset: usize,
+    from: usize,
+    out: &mut [u8],
+) -> usize
     ensures { λ r. ⌜ (let text = printRefusal letter number offset in (r ≡ min (length (now (out .entry))) (length text - from)) × (now (out .exit) ≡ windowed (length (now (out .entry))) from text)) ⌝ }
 {
     sink::clear(out);

@@ -1,7 +1,4 @@
-pub mod ForwardTurns
-pub mod OutputLaws
-pub mod RunLaws
-pub mod ForwardLaws
-pub mod StepLaws
-pub mod RunnerLaws
+pub mod ProgramHeld
 pub mod RunMeaning
+pub mod ListMeaning
+pub mod ListDemand

@@ -1,4 +1,5 @@
-pub mod OutputCells
-pub mod ForwardCells
 pub mod RunAnswer
 pub mod RunCells
+pub mod ListAnswer
+pub mod ListCells
+pub mod ListDemand

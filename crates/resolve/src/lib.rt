@@ -1,5 +1,4 @@
-// The resolver of 01 ("Running forwards", "The walk and what stops it"): what it means is defined in the crate `semantics`, and what
-// the functions over cells come to in specs/.
-mod forward;
-mod output;
+// The two entries of the resolver: `list`, the listing of a program and a job, and `run`, the program run forwards on the job's inputs. What
+// they answer and leave in storage is defined in specs/ListAnswer.antt and specs/RunAnswer.antt.
+pub mod list;
 pub mod run;

@@ -23,7 +23,10 @@ pub mod FreshNumbers
 pub mod SymbolNumbers
 pub mod EndNumbers
 pub mod AcceptedNumbers
+pub mod MainCall
 pub mod Replay
+pub mod Reaching
+pub mod Soundness
 pub mod Paths
 pub mod Backtracking
 pub mod Forward

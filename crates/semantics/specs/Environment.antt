@@ -4,8 +4,7 @@ use mathlib.Core.Path.{_≡_}
 use mathlib.Core.Bool.{cond}
 use mathlib.Core.List.{List, [], _∷_}
 use lib.Dec.{eqb}
-use Rattle.expressions.specs.Expression.{AtomicExp, Exp, atm, evar}
-use Rattle.expressions.specs.Expression.{avar}
+use Rattle.expressions.specs.Expression.{AtomicExp, Exp, atm, evar, avar}
 use Rattle.language.specs.Program.{Param, pe, pa, atomOf}
 
 -- the `e.` names and the `a.` names apart, each with what it is bound to

@@ -11,3 +11,4 @@ pub mod DisagreementLaws
 pub mod ClassCells
 pub mod ClassFilling
 pub mod IntersectionLaws
+pub mod MeetingLengths

@@ -31,5 +31,3 @@ pub mod ProgramRead
 pub mod JobRead
 pub mod PartLaws
 pub mod JobParts
-pub mod ReadLaws
-pub mod Reading

@@ -9,6 +9,5 @@ pub mod Ends
 pub mod JobCheckAt
 pub mod JobStored
 pub mod ReadAnswer
-pub mod ReadCells
 pub mod Heads
 pub mod PartEnds

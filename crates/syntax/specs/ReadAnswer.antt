@@ -42,3 +42,10 @@ resGot (refused r) n = Refused (r .number) (r .at)
 abbrev pub bytesGot : bytes.Verdict → ℕ → Got
 bytesGot none n = Past n
 bytesGot (some r) n = Refused (r .number) (r .at)
+
+abbrev pub programJudged : List ℕ → List ℕ → List ℕ → ℕ → Got
+programJudged marks nums ats n = onPast (verdictGot (check.programAt marks nums ats n)) (stored.programAt marks ats 0)
+
+-- `runs`: for the runner; main and m are the marks of the program's tokens and their number
+abbrev pub jobJudged : Bool → List ℕ → ℕ → List ℕ → List ℕ → List ℕ → List ℕ → ℕ → Got
+jobJudged runs main m text marks nums ats n = onPast (verdictGot (jobCheck.jobAt marks nums ats n runs text main m)) (stored.jobAt marks ats 0)

@@ -60,6 +60,7 @@ module _ (tok : ℕ → Token) (n : ℕ) (fs : List ℕ) (p : Prog) where
     contradicts = λ e. refl;
     over = λ K e l. let z : _≡_ {A = ℕ} 0 1 = cc in absurd (omega arith);
     on = λ K e l. let z : _≡_ {A = ℕ} 0 1 = cc in absurd (omega arith);
+    stands-at = λ K e l d q. let z : _≡_ {A = ℕ} 0 1 = cc in absurd (omega arith);
   }
 
   -- a branch that is over before it is taken
@@ -68,6 +69,7 @@ module _ (tok : ℕ → Token) (n : ℕ) (fs : List ℕ) (p : Prog) where
     contradicts = λ e. let z : _≡_ {A = ℕ} 0 1 = cc in absurd (omega arith);
     over = λ R e m. refl;
     on = λ R e m. let q : K ≡ R = cc in let c : nodesState (K .cr) ≡ nodesState (R .cr) = ap (λ (z : Configuration). nodesState (z .cr)) q in absurd (omega arith);
+    stands-at = λ R e m d q. let z : _≡_ {A = ℕ} 0 1 = cc in absurd (omega arith);
   }
 
 -- The two branches.

@@ -75,6 +75,8 @@ pub record Leads (tok : ℕ → Token) (n : ℕ) (fs : List ℕ) (p : Prog) (o :
   pub contradicts : o ≡ none → w .moved ≡ Contradiction
   pub over : (K : Configuration) → o ≡ some K → 4096 < nodesState (K .cr) → w .moved ≡ Over
   pub on : (K : Configuration) → o ≡ some K → nodesState (K .cr) ≤ 4096 → (d : InCells) × (w .moved ≡ On d) × HoldsConfiguration tok n fs p (w .stores) d K
+  -- the next term stands in the program: only the start's does not
+  pub stands-at : (K : Configuration) → o ≡ some K → nodesState (K .cr) ≤ 4096 → (d : InCells) → w .moved ≡ On d → (k : ℕ) × TermIn tok n fs (d .place) (K .term) k
 
 module _ (tok : ℕ → Token) (n : ℕ) (fs : List ℕ) (p : Prog) where
   leads : {i m : ℕ} {k : Counter} {t : Term} → TermIn tok n fs i t m → (o : Option (CRPair state)) (w : MovedAnswer) → Outcome i k o w → Leads tok n fs p (configuration t (k .next) o) w
@@ -82,8 +84,9 @@ module _ (tok : ℕ → Token) (n : ℕ) (fs : List ℕ) (p : Prog) where
     contradicts = λ e. r .contradicts refl;
     over = λ K e l. let z : _≡_ {A = ℕ} 0 1 = cc in absurd (omega arith);
     on = λ K e l. let z : _≡_ {A = ℕ} 0 1 = cc in absurd (omega arith);
+    stands-at = λ K e l d q. let z : _≡_ {A = ℕ} 0 1 = cc in absurd (omega arith);
   }
-  leads {i} {m} {k} {t} x (some Q) w r = record { contradicts = λ e. let z : _≡_ {A = ℕ} 0 1 = cc in absurd (omega arith); over = over; on = on }
+  leads {i} {m} {k} {t} x (some Q) w r = record { contradicts = λ e. let z : _≡_ {A = ℕ} 0 1 = cc in absurd (omega arith); over = over; on = on; stands-at = stands-at }
     where
       arrived : nodesState Q ≤ 4096 → (d : InCells) × (w .moved ≡ On d) × HoldsConfiguration tok n fs p (w .stores) d (record { cr = Q; term = t; fresh = k .next })
       arrived l = let a = r .on Q refl l in (a .at, a .moved, record { cr = a .holds; term = stands {k = m} (rw (a .place) x); fresh = ap (λ (z : Counter). z .next) (a .counter) })
@@ -99,6 +102,16 @@ module _ (tok : ℕ → Token) (n : ℕ) (fs : List ℕ) (p : Prog) where
           let q : _≡_ {A = Configuration} (record { cr = Q; term = t; fresh = k .next }) K = cc in
           let c : Q ≡ K .cr = ap (λ (z : Configuration). z .cr) q in
           subst (λ (z : Configuration). (d : InCells) × (w .moved ≡ On d) × HoldsConfiguration tok n fs p (w .stores) d z) q (arrived (subst (λ (z : CRPair state). nodesState z ≤ 4096) (inv c) l))
+
+      stands-at : (K : Configuration) → some (record { cr = Q; term = t; fresh = k .next }) ≡ some K → nodesState (K .cr) ≤ 4096 → (d : InCells) → w .moved ≡ On d → (j : ℕ) × TermIn tok n fs (d .place) (K .term) j
+      stands-at K e l d f =
+          let q : _≡_ {A = Configuration} (record { cr = Q; term = t; fresh = k .next }) K = cc in
+          let c : Q ≡ K .cr = ap (λ (z : Configuration). z .cr) q in
+          let a = r .on Q refl (subst (λ (z : CRPair state). nodesState z ≤ 4096) (inv c) l) in
+          let u = a .moved in
+          let g : a .at ≡ d = cc in
+          let h : d .place ≡ i = ap (λ (z : InCells). z .place) (inv g) ∙ a .place in
+          (m, rw (h, ← (ap (λ (z : Configuration). z .term) q)) x)
 
 -- the parts of an `if`
 pub record If (tok : ℕ → Token) (n : ℕ) (fs : List ℕ) (i : ℕ) (q : Condition) (t u : Term) : Type 0 where

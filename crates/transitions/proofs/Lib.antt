@@ -8,7 +8,6 @@ pub mod PlaceLaws
 pub mod LookLaws
 pub mod CallLaws
 pub mod EngineLaws
-pub mod MainCall
 pub mod BranchLaws
 pub mod StartTurns
 pub mod ProgramCells
@@ -21,3 +20,5 @@ pub mod RunStart
 pub mod EngineStart
 pub mod DefinitionCells
 pub mod StartLengths
+pub mod StepTurns
+pub mod StepLengths

@@ -1,5 +1,5 @@
 -- The start leaves its storages as long as they were.
-use Prim.Native.Nat.{ℕ, zero, suc, _+_, _-_}
+use Prim.Native.Nat.{ℕ, zero, suc, _+_, _-_, _/_}
 use mathlib.Core.Path.{_≡_, refl, _∙_}
 use mathlib.Core.Bool.{Bool, true, false}
 use mathlib.Core.List.{List}
@@ -9,17 +9,25 @@ use Rattle.sets.specs.Cells.{part, treeEnd}
 use Rattle.sets.specs.declared.fill.Filled.{Filled}
 use Rattle.sets.specs.declared.fill.Filled.the-variants.{Done, Over}
 use Rattle.syntax.specs.declared.job_ends.JobEnds.{JobEnds}
-use Rattle.environments.specs.Storing.{storedEntry}
+use Rattle.sets.specs.Restricting.{simplifyCells}
+use Rattle.sets.specs.declared.restriction.Restricted.{Restricted}
+use Rattle.sets.specs.declared.restriction.Restricted.the-variants.{Kept, Contradiction, Full}
+use Rattle.sets.proofs.MeetingLengths.{simplify-length}
+use Rattle.environments.specs.Storing.{stored, storedEntry}
 use Rattle.environments.specs.EnvironmentCells.{counted}
-use Rattle.environments.specs.ValueCells.{kindCell, keyCell}
+use Rattle.environments.specs.ValueCells.{kindCell, keyCell, afterToken}
 use Rattle.environments.specs.ArgumentCells.{ArgumentAnswer, afterArgument, unlessClosed}
 use Rattle.environments.specs.declared.environment.Counts.{Counts}
 use Rattle.environments.specs.declared.environment.Bound.{Bound}
 use Rattle.environments.specs.declared.environment.Bound.the-variants.{Done as Now, Over as BoundOver}
-use Rattle.environments.proofs.StoreLengths.{entry-length, appendE-kept}
+use Rattle.environments.proofs.StoreLengths.{stored-length, entry-length, appendE-kept}
 use Rattle.environments.proofs.ArgumentLengths.{ArgumentsKept, entry-kept}
-use Rattle.transitions.specs.DatumCells.{storedData}
-use Rattle.transitions.specs.StartCells.{inputKind, boundInput, inputsFrom, boundInputs, RunAnswer, runAnswer, onBound, onInputs, startedRun}
+use Rattle.transitions.specs.DatumCells.{datumCells, runsFrom, storedData}
+use Rattle.transitions.specs.StartCells as starting
+use Rattle.transitions.specs.StartCells.{inputKind, boundInput, inputsFrom, boundInputs, firstFreshCells, LaidAnswer, sidesLaid, laidSides, afterOut, laidOutput, laidJob, BegunAnswer, begunAnswer, onBound, onKept, onLaid, started, RunAnswer, runAnswer, onInputs, startedRun}
+use Rattle.transitions.specs.declared.start.Sizes.{Sizes}
+use Rattle.transitions.specs.declared.start.Laid.{Laid}
+use Rattle.transitions.specs.declared.start.Laid.the-variants.{Done as Lies, Over as LaidOver}
 
 module _ (marks nums io : List ℕ) (limit : ℕ) where
   kind-kept : (r : Bool) (p j to : ℕ) (b : Counts) (v t a : List ℕ) → ArgumentsKept v t a (inputKind r nums p io j to limit b v t a)
@@ -67,3 +75,71 @@ module _ (marks nums jmarks jnums : List ℕ) (e : JobEnds) (limit : ℕ) (i v t
           (length (w .ev) ≡ length v) × (length (w .et) ≡ length t) × (length (w .av) ≡ length a)
       go c (Done n) = inputs-kept marks nums c limit 4 v t a
       go c Over = (refl, refl, refl)
+
+-- what `start` leaves
+module _ (marks nums jmarks jnums : List ℕ) (e : JobEnds) (limit : ℕ) where
+  runs-kept : (f : ℕ → List ℕ) (left i k : ℕ) (d : List ℕ) → length (runsFrom f limit left i k d .cells) ≡ length d
+  unfolding runsFrom
+  runs-kept f zero i k d = refl
+  runs-kept f (suc left) i k d = let w = stored limit (f i) k d in go (w .cells) (w .answer) (λ m. runs-kept f left (i + 1) m (w .cells)) ∙ stored-length limit (f i) k d
+    where
+      go : (c : List ℕ) (r : Filled) → ((m : ℕ) → length (runsFrom f limit left (i + 1) m c .cells) ≡ length c) → length (afterToken (runsFrom f limit left (i + 1)) c r .cells) ≡ length c
+      go c (Done m) again = again m
+      go c Over again = refl
+
+  data-kept : (from to at : ℕ) (d : List ℕ) → length (storedData jmarks jnums limit from to at d .cells) ≡ length d
+  data-kept from to at d = runs-kept (datumCells jmarks jnums) (to - from) from at d
+
+  abbrev LaidKept : List ℕ → List ℕ → LaidAnswer → Type 0
+  LaidKept i s w = (length (w .io) ≡ length i) × (length (w .q) ≡ length s)
+
+  sides-kept : (a b : ℕ) (i s : List ℕ) → LaidKept i s (laidSides jmarks jnums e limit a b i s)
+  sides-kept a b i s = let w = storedData jmarks jnums limit (e .sides) (e .neqs) 0 s in go (w .cells) (w .answer) (data-kept (e .sides) (e .neqs) 0 s)
+    where
+      go : (c : List ℕ) (r : Filled) → length c ≡ length s → LaidKept i s (sidesLaid a b i c r)
+      go c (Done m) l = (refl, l)
+      go c Over l = (refl, l)
+
+  out-kept : (next : ℕ → LaidAnswer) (i s c : List ℕ) → length c ≡ length i → ((n : ℕ) → LaidKept c s (next n)) → (r : Filled) → LaidKept i s (afterOut next c s r)
+  out-kept next i s c l again (Done n) = let w = again n in (w .0 ∙ l, w .1)
+  out-kept next i s c l again Over = (l, refl)
+
+  output-kept : (a : ℕ) (i s : List ℕ) → LaidKept i s (laidOutput jmarks jnums e limit a i s)
+  output-kept a i s =
+      let w = storedData jmarks jnums limit (e .from) (e .out) a i in
+      out-kept (λ b. laidSides jmarks jnums e limit a b (w .cells) s) i s (w .cells) (data-kept (e .from) (e .out) a i) (λ b. sides-kept a b (w .cells) s) (w .answer)
+
+  laid-kept : (i s : List ℕ) → LaidKept i s (laidJob jmarks jnums e limit i s)
+  unfolding laidJob
+  laid-kept i s =
+      let w = storedData jmarks jnums limit 4 (e .ins) 0 i in
+      out-kept (λ a. laidOutput jmarks jnums e limit a (w .cells) s) i s (w .cells) (data-kept 4 (e .ins) 0 i) (λ a. output-kept a (w .cells) s) (w .answer)
+
+  abbrev BegunKept : List ℕ → List ℕ → List ℕ → List ℕ → BegunAnswer → Type 0
+  BegunKept s v t a w = (length (w .q) ≡ length s) × (length (w .ev) ≡ length v) × (length (w .et) ≡ length t) × (length (w .av) ≡ length a)
+
+  module _ (v t a : List ℕ) where
+    begun-kept : (z : Sizes) (io s : List ℕ) → BegunKept s v t a (starting.begun marks nums z io limit s v t a)
+    unfolding starting.begun
+    begun-kept z io s =
+        let k = simplifyCells (z .neqs / 2) s in
+        go (k .cells) (k .answer) (simplify-length _ 0 0 s)
+      where
+        go : (c : List ℕ) (r : Restricted) → length c ≡ length s → BegunKept s v t a (onKept (λ n. let w = boundInputs marks nums 4 io limit v t a in
+            begunAnswer (onBound (z .ins) (z .io) n (firstFreshCells io (z .io) s (z .neqs)) (w .answer)) c (w .ev) (w .et) (w .av)) c v t a r)
+        go c (Kept n) l = let w = inputs-kept marks nums io limit 4 v t a in (l, w .0, w .1, w .2)
+        go c Contradiction l = (l, refl, refl, refl)
+        go c Full l = (l, refl, refl, refl)
+
+    laid-begun : (io s q : List ℕ) → length q ≡ length s → (r : Laid) → BegunKept s v t a (onLaid (λ z. starting.begun marks nums z io limit q v t a) q v t a r)
+    laid-begun io s q l (Lies z) = let w = begun-kept z io q in (w .0 ∙ l, w .1, w .2, w .3)
+    laid-begun io s q l LaidOver = (l, refl, refl, refl)
+
+    pub start-kept : (i s : List ℕ) → let w = started marks nums jmarks jnums e limit i s v t a in
+        (length (w .io) ≡ length i) × (length (w .q) ≡ length s) × (length (w .ev) ≡ length v) × (length (w .et) ≡ length t) × (length (w .av) ≡ length a)
+    unfolding started
+    start-kept i s =
+        let l = laidJob jmarks jnums e limit i s in
+        let k = laid-kept i s in
+        let w = laid-begun (l .io) s (l .q) (k .1) (l .answer) in
+        (k .0, w .0, w .1, w .2, w .3)

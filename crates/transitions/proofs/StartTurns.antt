@@ -12,9 +12,9 @@ use Rattle.sets.specs.Cells.{treeEnd}
 use Rattle.sets.specs.Fill.{fillAnswer}
 use Rattle.sets.specs.declared.fill.Filled.{Filled}
 use Rattle.sets.specs.declared.fill.Filled.the-variants.{Done, Over}
-use Rattle.environments.specs.Storing.{Filled≡, stored}
+use Rattle.environments.specs.Storing.{FilledOut, stored}
 use Rattle.environments.specs.ValueCells.{keyCell}
-use Rattle.environments.specs.ArgumentCells.{Arguments≡, argumentAnswer}
+use Rattle.environments.specs.ArgumentCells.{ArgumentsOut, argumentAnswer}
 use Rattle.transitions.specs.DatumCells.{runsFrom}
 use Rattle.transitions.specs.StartCells.{boundInput, inputsFrom, numberCell, largestRun}
 use Rattle.environments.specs.declared.environment.Counts.{Counts}
@@ -27,7 +27,7 @@ module _ (f : ℕ → List ℕ) (limit to i k : ℕ) (d : List ℕ) where
   unfolding runsFrom
   runs-none h = let l : to - i ≡ 0 = omega arith in rw l
 
-  module _ (r : Filled) (g : List ℕ) (is : Filled≡ r g (stored limit (f i) k d)) (more : i < to) where
+  module _ (r : Filled) (g : List ℕ) (is : FilledOut r g (stored limit (f i) k d)) (more : i < to) where
     pub runs-on : (next : ℕ) → r ≡ Done next → runsFrom f limit (to - i) i k d ≡ runsFrom f limit (to - (i + 1)) (i + 1) next g
     unfolding runsFrom
     runs-on next q = let l : to - i ≡ suc (to - (i + 1)) = omega arith in rw (l, ← (is .0), q, is .1)
@@ -48,7 +48,7 @@ module _ (marks nums io : List ℕ) (limit p j : ℕ) (b : Counts) (v t a : List
     inputs-closed c = let l : length marks - p ≡ suc (length marks - (p + 1)) = omega arith in rw (l, eq-eqb (keyCell marks p) 4 c)
 
     module _ (unclosed : keyCell marks p ≡ 4 → ⊥) (to : ℕ) (ends-at : to ≡ treeEnd io j)
-        (r : Bound) (v2 t2 a2 : List ℕ) (is : Arguments≡ r v2 t2 a2 (boundInput marks nums p io j to limit b v t a)) where
+        (r : Bound) (v2 t2 a2 : List ℕ) (is : ArgumentsOut r v2 t2 a2 (boundInput marks nums p io j to limit b v t a)) where
       pub inputs-on : (next : Counts) → r ≡ Now next → inputsFrom marks nums io limit (length marks - p) p j b v t a ≡ inputsFrom marks nums io limit (length marks - (p + 1)) (p + 1) to next v2 t2 a2
       unfolding inputsFrom
       inputs-on next q =

@@ -14,7 +14,7 @@ use Rattle.sets.specs.declared.counter.Handed.the-variants.{Numbers}
 use Rattle.environments.specs.ValueCells.{keyCell}
 use Rattle.transitions.specs.ConfigurationCells.{withCounts, placedAt, rightOf, trueOf, falseOf}
 use Rattle.transitions.specs.ContractCells.{Stores, stores, MovedAnswer, movedAnswer}
-use Rattle.transitions.specs.TransitionCells.{advanced, Names≡, boundNames, Name≡, boundName, pairSplit, atomSplit}
+use Rattle.transitions.specs.TransitionCells.{advanced, NamesOut, boundNames, NameOut, boundName, pairSplit, atomSplit}
 use Rattle.environments.specs.declared.environment.Counts.{Counts}
 use Rattle.environments.specs.declared.environment.Bound.{Bound}
 use Rattle.environments.specs.declared.environment.Bound.the-variants.{Done as Now, Over as BoundOver}
@@ -52,7 +52,7 @@ module _ (marks : List ℕ) (q : ℕ) where
 
 module _ (marks nums ends : List ℕ) (s : Stores) (c : Configuration) (x : ℕ) (f : Fresh) (numbers : handed (c .counter .next) ≡ Numbers f) where
   module _ (b : Bound) (v t v2 t2 : List ℕ)
-      (is : Names≡ b v t v2 t2 (boundNames nums (rightOf marks ends (c .place)) (s .ev) (s .et) (s .ev2) (s .et2) (c .env) (codeOf (f .head) 2 ∷ codeOf (f .tail) 2 ∷ []) 1 2 4096)) where
+      (is : NamesOut b v t v2 t2 (boundNames nums (rightOf marks ends (c .place)) (s .ev) (s .et) (s .ev2) (s .et2) (c .env) (codeOf (f .head) 2 ∷ codeOf (f .tail) 2 ∷ []) 1 2 4096)) where
     pub pair-over : b ≡ BoundOver → pairSplit marks nums ends s c x ≡ movedAnswer Over (stores (s .io) v t (s .av) (s .q) (s .io2) v2 t2)
     unfolding pairSplit
     pair-over e = rw (numbers, ← (is .1), ← (is .2), ← (is .3), ← (is .4), ← (is .0), e)
@@ -62,7 +62,7 @@ module _ (marks nums ends : List ℕ) (s : Stores) (c : Configuration) (x : ℕ)
     unfolding pairSplit
     pair-on n e k k-is d d-is = rw (numbers, ← (is .1), ← (is .2), ← (is .3), ← (is .4), ← (is .0), e, k-is, d-is)
 
-  module _ (b : Bound) (a : List ℕ) (is : Name≡ b a (boundName marks nums ends (s .av) (c .env) (c .place) (codeOf (f .atom) 3))) where
+  module _ (b : Bound) (a : List ℕ) (is : NameOut b a (boundName marks nums ends (s .av) (c .env) (c .place) (codeOf (f .atom) 3))) where
     pub atom-over : b ≡ BoundOver → atomSplit marks nums ends s c x ≡ movedAnswer Over (stores (s .io) (s .ev) (s .et) a (s .q) (s .io2) (s .ev2) (s .et2))
     unfolding atomSplit
     atom-over e = rw (numbers, ← (is .1), ← (is .0), e)

@@ -52,8 +52,8 @@ pub record CallAnswer : Type 0 where
   pub et2 : List ℕ
   pub av2 : List ℕ
 
-abbrev pub Called≡ : Moved → List ℕ → List ℕ → List ℕ → List ℕ → List ℕ → List ℕ → CallAnswer → Type 0
-Called≡ r v t a v2 t2 a2 w =
+abbrev pub CalledOut : Moved → List ℕ → List ℕ → List ℕ → List ℕ → List ℕ → List ℕ → CallAnswer → Type 0
+CalledOut r v t a v2 t2 a2 w =
     (r ≡ w .moved) × (v ≡ w .ev) × (t ≡ w .et) × (a ≡ w .av) × (v2 ≡ w .ev2) × (t2 ≡ w .et2) × (a2 ≡ w .av2)
 
 abbrev pub callAnswer : Moved → List ℕ → List ℕ → List ℕ → List ℕ → List ℕ → List ℕ → CallAnswer

@@ -182,8 +182,8 @@ pub record MovedAnswer : Type 0 where
 abbrev pub movedAnswer : Moved → Stores → MovedAnswer
 movedAnswer r s = record { moved = r; stores = s }
 
-abbrev pub Moved≡ : Moved → Stores → MovedAnswer → Type 0
-Moved≡ r s w =
+abbrev pub MovedOut : Moved → Stores → MovedAnswer → Type 0
+MovedOut r s w =
     (r ≡ w .moved) × (s .io ≡ w .stores .io) × (s .ev ≡ w .stores .ev) × (s .et ≡ w .stores .et) × (s .av ≡ w .stores .av)
     × (s .q ≡ w .stores .q) × (s .io2 ≡ w .stores .io2) × (s .ev2 ≡ w .stores .ev2) × (s .et2 ≡ w .stores .et2)
 

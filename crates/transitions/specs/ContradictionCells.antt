@@ -58,8 +58,8 @@ pub record BranchesAnswer : Type 0 where
   pub branches : Branches
   pub q2 : List ℕ
 
-abbrev pub Branches≡ : Branches → List ℕ → BranchesAnswer → Type 0
-Branches≡ r q w = (r ≡ w .branches) × (q ≡ w .q2)
+abbrev pub BranchesOut : Branches → List ℕ → BranchesAnswer → Type 0
+BranchesOut r q w = (r ≡ w .branches) × (q ≡ w .q2)
 
 abbrev pub branchesAnswer : Bool → Bool → List ℕ → BranchesAnswer
 branchesAnswer y z q = record { branches = record { yes = y; no = z }; q2 = q }

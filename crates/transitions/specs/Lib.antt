@@ -7,3 +7,4 @@ pub mod ContradictionCells
 pub mod BranchCells
 pub mod DatumCells
 pub mod StartCells
+pub mod StepCells

@@ -20,8 +20,8 @@ pub record LookAnswer : Type 0 where
   pub look : Look
   pub val : List ℕ
 
-abbrev pub Look≡ : Look → List ℕ → LookAnswer → Type 0
-Look≡ r v w = (r ≡ w .look) × (v ≡ w .val)
+abbrev pub LookOut : Look → List ℕ → LookAnswer → Type 0
+LookOut r v w = (r ≡ w .look) × (v ≡ w .val)
 
 abbrev pub lookAnswer : Look → List ℕ → LookAnswer
 lookAnswer r v = record { look = r; val = v }

@@ -135,8 +135,8 @@ pub record StartAnswer : Type 0 where
   pub et : List ℕ
   pub av : List ℕ
 
-abbrev pub Start≡ : Started → List ℕ → List ℕ → List ℕ → List ℕ → List ℕ → StartAnswer → Type 0
-Start≡ r i s v t a w = (r ≡ w .answer) × (i ≡ w .io) × (s ≡ w .q) × (v ≡ w .ev) × (t ≡ w .et) × (a ≡ w .av)
+abbrev pub StartOut : Started → List ℕ → List ℕ → List ℕ → List ℕ → List ℕ → StartAnswer → Type 0
+StartOut r i s v t a w = (r ≡ w .answer) × (i ≡ w .io) × (s ≡ w .q) × (v ≡ w .ev) × (t ≡ w .et) × (a ≡ w .av)
 
 abbrev pub startAnswer : List ℕ → BegunAnswer → StartAnswer
 startAnswer i w = record { answer = w .answer; io = i; q = w .q; ev = w .ev; et = w .et; av = w .av }
@@ -158,8 +158,8 @@ pub record RunAnswer : Type 0 where
   pub et : List ℕ
   pub av : List ℕ
 
-abbrev pub StartRun≡ : Started → List ℕ → List ℕ → List ℕ → List ℕ → RunAnswer → Type 0
-StartRun≡ r i v t a w = (r ≡ w .answer) × (i ≡ w .io) × (v ≡ w .ev) × (t ≡ w .et) × (a ≡ w .av)
+abbrev pub StartRunOut : Started → List ℕ → List ℕ → List ℕ → List ℕ → RunAnswer → Type 0
+StartRunOut r i v t a w = (r ≡ w .answer) × (i ≡ w .io) × (v ≡ w .ev) × (t ≡ w .et) × (a ≡ w .av)
 
 abbrev pub runAnswer : Started → List ℕ → List ℕ → List ℕ → List ℕ → RunAnswer
 runAnswer r i v t a = record { answer = r; io = i; ev = v; et = t; av = a }

@@ -46,8 +46,8 @@ pub record NamesAnswer : Type 0 where
   pub ev2 : List ℕ
   pub et2 : List ℕ
 
-abbrev pub Names≡ : Bound → List ℕ → List ℕ → List ℕ → List ℕ → NamesAnswer → Type 0
-Names≡ r v t v2 t2 w = (r ≡ w .answer) × (v ≡ w .ev) × (t ≡ w .et) × (v2 ≡ w .ev2) × (t2 ≡ w .et2)
+abbrev pub NamesOut : Bound → List ℕ → List ℕ → List ℕ → List ℕ → NamesAnswer → Type 0
+NamesOut r v t v2 t2 w = (r ≡ w .answer) × (v ≡ w .ev) × (t ≡ w .et) × (v2 ≡ w .ev2) × (t2 ≡ w .et2)
 
 abbrev pub namesAnswer : Bound → List ℕ → List ℕ → List ℕ → List ℕ → NamesAnswer
 namesAnswer r v t v2 t2 = record { answer = r; ev = v; et = t; ev2 = v2; et2 = t2 }
@@ -91,8 +91,8 @@ pub record NameAnswer : Type 0 where
   pub answer : Bound
   pub av : List ℕ
 
-abbrev pub Name≡ : Bound → List ℕ → NameAnswer → Type 0
-Name≡ r a w = (r ≡ w .answer) × (a ≡ w .av)
+abbrev pub NameOut : Bound → List ℕ → NameAnswer → Type 0
+NameOut r a w = (r ≡ w .answer) × (a ≡ w .av)
 
 abbrev pub afterAtom : Counts → Filled → Bound
 afterAtom e (Done n) = Now (counted (e .es) (e .cells) n)

@@ -13,7 +13,7 @@ use sets::cell;
 use sets::intersection;
 ghost use mathlib.Core.Path.{_≡_};
 ghost use Rattle.transitions.specs.ContractCells.{copiedTable};
-ghost use Rattle.transitions.specs.CallCells.{headOf, calleeOf, closing, bodyOf, copiedCells, Called≡, entered, calledCells};
+ghost use Rattle.transitions.specs.CallCells.{headOf, calleeOf, closing, bodyOf, copiedCells, CalledOut, entered, calledCells};
 
 // The index of the token that names the first of `count` definitions with this name; 0, where no definition's name stands, if
 // there is none, which 7 refuses.
@@ -95,7 +95,7 @@ fn enter(
     av2: &mut [u16],
     c: Configuration,
 ) -> Moved
-    ensures { λ r. ⌜ Called≡ r (now (ev .exit)) (now (et .exit)) (now (av .exit)) (now (ev2 .exit)) (now (et2 .exit)) (now (av2 .exit)) (entered (now (marks .entry)) (now (nums .entry)) (now (ends .entry)) h (now (ev .entry)) (now (et .entry)) (now (av .entry)) (now (ev2 .entry)) (now (et2 .entry)) (now (av2 .entry)) c) ⌝ }
+    ensures { λ r. ⌜ CalledOut r (now (ev .exit)) (now (et .exit)) (now (av .exit)) (now (ev2 .exit)) (now (et2 .exit)) (now (av2 .exit)) (entered (now (marks .entry)) (now (nums .entry)) (now (ends .entry)) h (now (ev .entry)) (now (et .entry)) (now (av .entry)) (now (ev2 .entry)) (now (et2 .entry)) (now (av2 .entry)) c) ⌝ }
 {
     let env = c.env;
     let b = arguments::bind_arguments(
@@ -136,7 +136,7 @@ pub fn take_call(
     av2: &mut [u16],
     c: Configuration,
 ) -> Moved
-    ensures { λ r. ⌜ Called≡ r (now (ev .exit)) (now (et .exit)) (now (av .exit)) (now (ev2 .exit)) (now (et2 .exit)) (now (av2 .exit)) (calledCells (now (marks .entry)) (now (nums .entry)) (now (ends .entry)) (now (heads .entry)) count (now (ev .entry)) (now (et .entry)) (now (av .entry)) (now (ev2 .entry)) (now (et2 .entry)) (now (av2 .entry)) c) ⌝ }
+    ensures { λ r. ⌜ (let w = calledCells (now (marks .entry)) (now (nums .entry)) (now (ends .entry)) (now (heads .entry)) count (now (ev .entry)) (now (et .entry)) (now (av .entry)) (now (ev2 .entry)) (now (et2 .entry)) (now (av2 .entry)) c in (r ≡ w .moved) × (now (ev .exit) ≡ w .ev) × (now (et .exit) ≡ w .et) × (now (av .exit) ≡ w .av) × (now (ev2 .exit) ≡ w .ev2) × (now (et2 .exit) ≡ w .et2) × (now (av2 .exit) ≡ w .av2)) ⌝ }
 {
     if c.place == 0 {
         let h = store::wide(cell::cell(heads, 0));

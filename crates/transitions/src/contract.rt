@@ -12,7 +12,7 @@ use sets::intersection;
 use sets::restriction;
 use sets::restriction::Restricted;
 ghost use mathlib.Core.Path.{_≡_};
-ghost use Rattle.transitions.specs.ContractCells.{afterRestriction, RestrictionOut, addedNonEquality, boundRestriction, LeafOut, boundLeaf, InputsOut, filledInputs, TreeOut, filledConfiguration, copiedTable, BackOut, copiedBack, PairOut, boundPair, stores, Moved≡, contracted};
+ghost use Rattle.transitions.specs.ContractCells.{afterRestriction, RestrictionOut, addedNonEquality, boundRestriction, LeafOut, boundLeaf, InputsOut, filledInputs, TreeOut, filledConfiguration, copiedTable, BackOut, copiedBack, PairOut, boundPair, stores, MovedOut, contracted};
 
 // What is left of the non-equalities decides. No storage of 4,096 cells is full before 21.
 fn after_restriction(r: Restricted, c: Configuration) -> Moved
@@ -183,7 +183,7 @@ pub(crate) fn contract(
     et2: &mut [u16],
     c: Configuration,
 ) -> Moved
-    ensures { λ r. ⌜ Moved≡ r (stores (now (io .exit)) (now (ev .exit)) (now (et .exit)) (now (av .exit)) (now (q .exit)) (now (io2 .exit)) (now (ev2 .exit)) (now (et2 .exit))) (contracted k (stores (now (io .entry)) (now (ev .entry)) (now (et .entry)) (now (av .entry)) (now (q .entry)) (now (io2 .entry)) (now (ev2 .entry)) (now (et2 .entry))) c) ⌝ }
+    ensures { λ r. ⌜ MovedOut r (stores (now (io .exit)) (now (ev .exit)) (now (et .exit)) (now (av .exit)) (now (q .exit)) (now (io2 .exit)) (now (ev2 .exit)) (now (et2 .exit))) (contracted k (stores (now (io .entry)) (now (ev .entry)) (now (et .entry)) (now (av .entry)) (now (q .entry)) (now (io2 .entry)) (now (ev2 .entry)) (now (et2 .entry))) c) ⌝ }
 {
     match k {
         Contraction::Identity => Moved::On(c),

@@ -8,7 +8,7 @@ use sets::restriction::Kind;
 use sets::restriction::Restricted;
 ghost use mathlib.Core.Path.{_≡_};
 ghost use mathlib.Core.Bool.{not};
-ghost use Rattle.transitions.specs.ContradictionCells.{TestOut, bindingTested, nonEqualityTested, contradictionTested, Branches≡, sameTested, branchesTested};
+ghost use Rattle.transitions.specs.ContradictionCells.{TestOut, bindingTested, nonEqualityTested, contradictionTested, BranchesOut, sameTested, branchesTested};
 
 // Whether a `?a` bound so contradicts the first n non-equalities, which stay: q2 is spare.
 fn binding_contradicts(q: &[u16], q2: &mut [u16], n: usize, var: u16, to: u16) -> bool
@@ -69,7 +69,7 @@ pub struct Branches {
 
 // Those of an `eqa?`.
 fn same_branches(q: &[u16], q2: &mut [u16], n: usize, left: u16, right: u16) -> Branches
-    ensures { λ r. ⌜ Branches≡ r (now (q2 .exit)) (sameTested (now (q .entry)) (now (q2 .entry)) n left right) ⌝ }
+    ensures { λ r. ⌜ BranchesOut r (now (q2 .exit)) (sameTested (now (q .entry)) (now (q2 .entry)) n left right) ⌝ }
 {
     let split = contraction::split_atomic(left, right);
     let k = split.yes;
@@ -83,7 +83,7 @@ fn same_branches(q: &[u16], q2: &mut [u16], n: usize, left: u16, right: u16) -> 
 }
 
 pub fn branches_of(look: Look, q: &[u16], q2: &mut [u16], n: usize) -> Branches
-    ensures { λ r. ⌜ Branches≡ r (now (q2 .exit)) (branchesTested look (now (q .entry)) (now (q2 .entry)) n) ⌝ }
+    ensures { λ r. ⌜ (let w = branchesTested look (now (q .entry)) (now (q2 .entry)) n in (r ≡ w .branches) × (now (q2 .exit) ≡ w .q2)) ⌝ }
 {
     match look {
         Look::Result => Branches {

@@ -10,7 +10,7 @@ use sets::cell;
 use sets::contraction;
 use sets::fill::Filled;
 ghost use mathlib.Core.Path.{_≡_};
-ghost use Rattle.environments.specs.Storing.{Filled≡, stored};
+ghost use Rattle.environments.specs.Storing.{FilledOut, stored};
 ghost use Rattle.transitions.specs.DatumCells.{datumCell, datumCells, storedData};
 
 // The code that the token i gives; 0, which is no node, if it gives none.
@@ -43,7 +43,7 @@ fn store_datum(
     at: usize,
     limit: usize,
 ) -> Filled
-    ensures { λ r. ⌜ Filled≡ r (now (dst .exit)) (stored limit (datumCells (now (jmarks .entry)) (now (jnums .entry)) i) at (now (dst .entry))) ⌝ }
+    ensures { λ r. ⌜ FilledOut r (now (dst .exit)) (stored limit (datumCells (now (jmarks .entry)) (now (jnums .entry)) i) at (now (dst .entry))) ⌝ }
 {
     let code = datum_cell(jmarks, jnums, i);
     if code == 0 {
@@ -63,7 +63,7 @@ pub(crate) fn store_data(
     at: usize,
     limit: usize,
 ) -> Filled
-    ensures { λ r. ⌜ Filled≡ r (now (dst .exit)) (storedData (now (jmarks .entry)) (now (jnums .entry)) limit from to at (now (dst .entry))) ⌝ }
+    ensures { λ r. ⌜ FilledOut r (now (dst .exit)) (storedData (now (jmarks .entry)) (now (jnums .entry)) limit from to at (now (dst .entry))) ⌝ }
 {
     let mut k = at;
     let mut i = from;

@@ -8,5 +8,6 @@ pub mod contradiction;
 mod datum;
 pub mod look;
 pub mod start;
+pub mod step;
 pub mod take;
 pub mod transition;

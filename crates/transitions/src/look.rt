@@ -16,9 +16,9 @@ use sets::cell;
 use sets::fill::Filled;
 use sets::intersection;
 ghost use mathlib.Core.Path.{_≡_};
-ghost use Rattle.environments.specs.Storing.{Filled≡};
+ghost use Rattle.environments.specs.Storing.{FilledOut};
 ghost use Rattle.environments.specs.ValueCells.{environment, evaluated};
-ghost use Rattle.transitions.specs.LookCells.{Look≡, lookParts, lookName, lookCons, lookTested, lookCondition, lookTerm};
+ghost use Rattle.transitions.specs.LookCells.{LookOut, lookParts, lookName, lookCons, lookTested, lookCondition, lookTerm};
 
 // Result: "A state whose term is an e is an end". Same: an `eqa?` of these two codes. Atom, Pair, Variable: a `cons?` on an atomic
 // code, on a pair whose head stands in `val` up to mid and its tail up to `end`, on a `?e`. Large: on a pair of more than 4,096 nodes.
@@ -34,7 +34,7 @@ pub enum Look {
 
 // The two parts of the pair that stands in ev from `from` up to `to`.
 fn look_parts(ev: &[u16], from: usize, to: usize, val: &mut [u16]) -> Look
-    ensures { λ r. ⌜ Look≡ r (now (val .exit)) (lookParts (now (ev .entry)) from to (now (val .entry))) ⌝ }
+    ensures { λ r. ⌜ LookOut r (now (val .exit)) (lookParts (now (ev .entry)) from to (now (val .entry))) ⌝ }
 {
     let w = store::store_run(
         ev,
@@ -53,7 +53,7 @@ fn look_parts(ev: &[u16], from: usize, to: usize, val: &mut [u16]) -> Look
 
 // The value of an `e.` name by its first cell; the symbol 0 if it has none.
 fn look_name(ev: &[u16], et: &[u16], es: usize, name: u16, val: &mut [u16]) -> Look
-    ensures { λ r. ⌜ Look≡ r (now (val .exit)) (lookName (now (ev .entry)) (now (et .entry)) es name (now (val .entry))) ⌝ }
+    ensures { λ r. ⌜ LookOut r (now (val .exit)) (lookName (now (ev .entry)) (now (et .entry)) es name (now (val .entry))) ⌝ }
 {
     let i = environment::find(et, es, name);
     if cell::least(es, et.len() / 2) <= i {
@@ -84,7 +84,7 @@ fn value_part(
     val: &mut [u16],
     at: usize,
 ) -> Filled
-    ensures { λ r. ⌜ Filled≡ r (now (val .exit)) (evaluated (now (marks .entry)) (now (nums .entry)) (environment (now (ev .entry)) (now (et .entry)) (now (av .entry)) env) 4096 from to at (now (val .entry))) ⌝ }
+    ensures { λ r. ⌜ FilledOut r (now (val .exit)) (evaluated (now (marks .entry)) (now (nums .entry)) (environment (now (ev .entry)) (now (et .entry)) (now (av .entry)) env) 4096 from to at (now (val .entry))) ⌝ }
 {
     let limit = intersection::NODES;
     value::evaluate(marks, nums, from, to, ev, et, av, env, val, at, limit)
@@ -102,7 +102,7 @@ fn look_cons(
     env: Counts,
     val: &mut [u16],
 ) -> Look
-    ensures { λ r. ⌜ Look≡ r (now (val .exit)) (lookCons (now (marks .entry)) (now (nums .entry)) (now (ends .entry)) (environment (now (ev .entry)) (now (et .entry)) (now (av .entry)) env) i (now (val .entry))) ⌝ }
+    ensures { λ r. ⌜ LookOut r (now (val .exit)) (lookCons (now (marks .entry)) (now (nums .entry)) (now (ends .entry)) (environment (now (ev .entry)) (now (et .entry)) (now (av .entry)) env) i (now (val .entry))) ⌝ }
 {
     let head = configuration::past(i, 2);
     let tail = arguments::argument_end(marks, ends, head);
@@ -130,7 +130,7 @@ fn look_tested(
     env: Counts,
     val: &mut [u16],
 ) -> Look
-    ensures { λ r. ⌜ Look≡ r (now (val .exit)) (lookTested (now (marks .entry)) (now (nums .entry)) (now (ends .entry)) (environment (now (ev .entry)) (now (et .entry)) (now (av .entry)) env) i (now (val .entry))) ⌝ }
+    ensures { λ r. ⌜ LookOut r (now (val .exit)) (lookTested (now (marks .entry)) (now (nums .entry)) (now (ends .entry)) (environment (now (ev .entry)) (now (et .entry)) (now (av .entry)) env) i (now (val .entry))) ⌝ }
 {
     if value::key(marks, i) == OPEN {
         return look_cons(marks, nums, ends, i, ev, et, av, env, val);
@@ -153,7 +153,7 @@ fn look_condition(
     env: Counts,
     val: &mut [u16],
 ) -> Look
-    ensures { λ r. ⌜ Look≡ r (now (val .exit)) (lookCondition (now (marks .entry)) (now (nums .entry)) (now (ends .entry)) (environment (now (ev .entry)) (now (et .entry)) (now (av .entry)) env) place (now (val .entry))) ⌝ }
+    ensures { λ r. ⌜ LookOut r (now (val .exit)) (lookCondition (now (marks .entry)) (now (nums .entry)) (now (ends .entry)) (environment (now (ev .entry)) (now (et .entry)) (now (av .entry)) env) place (now (val .entry))) ⌝ }
 {
     let i = branch::left_of(place);
     if value::key(marks, configuration::past(place, 3)) == EQA {
@@ -179,7 +179,7 @@ pub fn look_term(
     c: Configuration,
     val: &mut [u16],
 ) -> Look
-    ensures { λ r. ⌜ Look≡ r (now (val .exit)) (lookTerm (now (marks .entry)) (now (nums .entry)) (now (ends .entry)) (environment (now (ev .entry)) (now (et .entry)) (now (av .entry)) (c .env)) (c .place) (now (val .entry))) ⌝ }
+    ensures { λ r. ⌜ (let w = lookTerm (now (marks .entry)) (now (nums .entry)) (now (ends .entry)) (environment (now (ev .entry)) (now (et .entry)) (now (av .entry)) (c .env)) (c .place) (now (val .entry)) in (r ≡ w .look) × (now (val .exit) ≡ w .val)) ⌝ }
 {
     let place = c.place;
     if place == 0 {

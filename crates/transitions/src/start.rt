@@ -17,8 +17,8 @@ use syntax::job_ends::JobEnds;
 ghost use mathlib.Core.Path.{_≡_};
 ghost use Prim.Native.Nat.{_≤_, max};
 ghost use lib.ListN.{take};
-ghost use Rattle.environments.specs.ArgumentCells.{Arguments≡};
-ghost use Rattle.transitions.specs.StartCells.{StartRun≡, Start≡, boundInput, boundInputs, numberCell, largestRun, firstFreshCells, LaidOut, laidJob, BegunOut, begun, started, startedRun, configured};
+ghost use Rattle.environments.specs.ArgumentCells.{ArgumentsOut};
+ghost use Rattle.transitions.specs.StartCells.{boundInput, boundInputs, numberCell, largestRun, firstFreshCells, laidJob, BegunOut, begun, started, startedRun, configured};
 
 // The index of main's first parameter in the program, and of the first input in the job.
 const PARAMS: usize = 4;
@@ -39,7 +39,7 @@ fn bind_input(
     b: Counts,
     limit: usize,
 ) -> Bound
-    ensures { λ r. ⌜ Arguments≡ r (now (ev .exit)) (now (et .exit)) (now (av .exit)) (boundInput (now (marks .entry)) (now (nums .entry)) p (now (io .entry)) j to limit b (now (ev .entry)) (now (et .entry)) (now (av .entry))) ⌝ }
+    ensures { λ r. ⌜ ArgumentsOut r (now (ev .exit)) (now (et .exit)) (now (av .exit)) (boundInput (now (marks .entry)) (now (nums .entry)) p (now (io .entry)) j to limit b (now (ev .entry)) (now (et .entry)) (now (av .entry))) ⌝ }
 {
     let name = cell::cell(nums, p);
     if value::kind(marks, p) == ANAME {
@@ -66,7 +66,7 @@ pub(crate) fn bind_inputs(
     av: &mut [u16],
     limit: usize,
 ) -> Bound
-    ensures { λ r. ⌜ Arguments≡ r (now (ev .exit)) (now (et .exit)) (now (av .exit)) (boundInputs (now (marks .entry)) (now (nums .entry)) p (now (io .entry)) limit (now (ev .entry)) (now (et .entry)) (now (av .entry))) ⌝ }
+    ensures { λ r. ⌜ ArgumentsOut r (now (ev .exit)) (now (et .exit)) (now (av .exit)) (boundInputs (now (marks .entry)) (now (nums .entry)) p (now (io .entry)) limit (now (ev .entry)) (now (et .entry)) (now (av .entry))) ⌝ }
 {
     let mut b = Counts {
         es: 0,
@@ -133,20 +133,20 @@ pub(crate) fn first_fresh(io: &[u16], n: usize, q: &[u16], m: usize) -> u16
 }
 
 // How many cells a job's inputs have, these and the wanted output, and the non-equalities.
-pub(crate) struct Sizes {
+pub struct Sizes {
     pub ins: usize,
     pub io: usize,
     pub neqs: usize,
 }
 
 // Done: the job's cells stand. Over: they do not fit.
-pub(crate) enum Laid {
+pub enum Laid {
     Done(Sizes),
     Over,
 }
 
 // The job's cells: in io the inputs and behind them the wanted output, in q the non-equalities.
-fn lay_job(
+pub fn lay_job(
     jmarks: &[u16],
     jnums: &[u16],
     parts: JobEnds,
@@ -154,7 +154,7 @@ fn lay_job(
     q: &mut [u16],
     limit: usize,
 ) -> Laid
-    ensures { λ r. ⌜ LaidOut r (now (io .exit)) (now (q .exit)) (laidJob (now (jmarks .entry)) (now (jnums .entry)) parts limit (now (io .entry)) (now (q .entry))) ⌝ }
+    ensures { λ r. ⌜ (let w = laidJob (now (jmarks .entry)) (now (jnums .entry)) parts limit (now (io .entry)) (now (q .entry)) in (r ≡ w .answer) × (now (io .exit) ≡ w .io) × (now (q .exit) ≡ w .q)) ⌝ }
 {
     let ins = datum::store_data(jmarks, jnums, INPUTS, parts.ins, io, 0, limit);
     let Filled::Done(a) = ins else {
@@ -241,7 +241,7 @@ pub fn start(
     av: &mut [u16],
     limit: usize,
 ) -> Started
-    ensures { λ r. ⌜ Start≡ r (now (io .exit)) (now (q .exit)) (now (ev .exit)) (now (et .exit)) (now (av .exit)) (started (now (marks .entry)) (now (nums .entry)) (now (jmarks .entry)) (now (jnums .entry)) parts limit (now (io .entry)) (now (q .entry)) (now (ev .entry)) (now (et .entry)) (now (av .entry))) ⌝ }
+    ensures { λ r. ⌜ (let w = started (now (marks .entry)) (now (nums .entry)) (now (jmarks .entry)) (now (jnums .entry)) parts limit (now (io .entry)) (now (q .entry)) (now (ev .entry)) (now (et .entry)) (now (av .entry)) in (r ≡ w .answer) × (now (io .exit) ≡ w .io) × (now (q .exit) ≡ w .q) × (now (ev .exit) ≡ w .ev) × (now (et .exit) ≡ w .et) × (now (av .exit) ≡ w .av)) ⌝ }
 {
     let r = lay_job(jmarks, jnums, parts, io, q, limit);
     let Laid::Done(s) = r else {
@@ -263,7 +263,7 @@ pub fn start_run(
     av: &mut [u16],
     limit: usize,
 ) -> Started
-    ensures { λ r. ⌜ StartRun≡ r (now (io .exit)) (now (ev .exit)) (now (et .exit)) (now (av .exit)) (startedRun (now (marks .entry)) (now (nums .entry)) (now (jmarks .entry)) (now (jnums .entry)) parts limit (now (io .entry)) (now (ev .entry)) (now (et .entry)) (now (av .entry))) ⌝ }
+    ensures { λ r. ⌜ (let w = startedRun (now (marks .entry)) (now (nums .entry)) (now (jmarks .entry)) (now (jnums .entry)) parts limit (now (io .entry)) (now (ev .entry)) (now (et .entry)) (now (av .entry)) in (r ≡ w .answer) × (now (io .exit) ≡ w .io) × (now (ev .exit) ≡ w .ev) × (now (et .exit) ≡ w .et) × (now (av .exit) ≡ w .av)) ⌝ }
 {
     let ins = datum::store_data(jmarks, jnums, INPUTS, parts.ins, io, 0, limit);
     let Filled::Done(a) = ins else {

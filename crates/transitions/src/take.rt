@@ -9,7 +9,7 @@ use crate::transition::take_other;
 use crate::transition::take_pair;
 use crate::transition::take_same;
 ghost use mathlib.Core.Path.{_≡_};
-ghost use Rattle.transitions.specs.ContractCells.{Moved≡, stores};
+ghost use Rattle.transitions.specs.ContractCells.{stores};
 ghost use Rattle.transitions.specs.BranchCells.{trueTaken, falseTaken};
 
 // The true branch; a contradiction where there is none.
@@ -29,7 +29,7 @@ pub fn take_true(
     look: Look,
     val: &[u16],
 ) -> Moved
-    ensures { λ r. ⌜ Moved≡ r (stores (now (io .exit)) (now (ev .exit)) (now (et .exit)) (now (av .exit)) (now (q .exit)) (now (io2 .exit)) (now (ev2 .exit)) (now (et2 .exit))) (trueTaken (now (marks .entry)) (now (nums .entry)) (now (ends .entry)) (stores (now (io .entry)) (now (ev .entry)) (now (et .entry)) (now (av .entry)) (now (q .entry)) (now (io2 .entry)) (now (ev2 .entry)) (now (et2 .entry))) c (now (val .entry)) look) ⌝ }
+    ensures { λ r. ⌜ (let w = trueTaken (now (marks .entry)) (now (nums .entry)) (now (ends .entry)) (stores (now (io .entry)) (now (ev .entry)) (now (et .entry)) (now (av .entry)) (now (q .entry)) (now (io2 .entry)) (now (ev2 .entry)) (now (et2 .entry))) c (now (val .entry)) look in (r ≡ w .moved) × (now (io .exit) ≡ w .stores .io) × (now (ev .exit) ≡ w .stores .ev) × (now (et .exit) ≡ w .stores .et) × (now (av .exit) ≡ w .stores .av) × (now (q .exit) ≡ w .stores .q) × (now (io2 .exit) ≡ w .stores .io2) × (now (ev2 .exit) ≡ w .stores .ev2) × (now (et2 .exit) ≡ w .stores .et2)) ⌝ }
 {
     match look {
         Look::Same { left: x, right: y } => {
@@ -64,7 +64,7 @@ pub fn take_false(
     c: Configuration,
     look: Look,
 ) -> Moved
-    ensures { λ r. ⌜ Moved≡ r (stores (now (io .exit)) (now (ev .exit)) (now (et .exit)) (now (av .exit)) (now (q .exit)) (now (io2 .exit)) (now (ev2 .exit)) (now (et2 .exit))) (falseTaken (now (marks .entry)) (now (nums .entry)) (now (ends .entry)) (stores (now (io .entry)) (now (ev .entry)) (now (et .entry)) (now (av .entry)) (now (q .entry)) (now (io2 .entry)) (now (ev2 .entry)) (now (et2 .entry))) c look) ⌝ }
+    ensures { λ r. ⌜ (let w = falseTaken (now (marks .entry)) (now (nums .entry)) (now (ends .entry)) (stores (now (io .entry)) (now (ev .entry)) (now (et .entry)) (now (av .entry)) (now (q .entry)) (now (io2 .entry)) (now (ev2 .entry)) (now (et2 .entry))) c look in (r ≡ w .moved) × (now (io .exit) ≡ w .stores .io) × (now (ev .exit) ≡ w .stores .ev) × (now (et .exit) ≡ w .stores .et) × (now (av .exit) ≡ w .stores .av) × (now (q .exit) ≡ w .stores .q) × (now (io2 .exit) ≡ w .stores .io2) × (now (ev2 .exit) ≡ w .stores .ev2) × (now (et2 .exit) ≡ w .stores .et2)) ⌝ }
 {
     match look {
         Look::Same { left: x, right: y } => {

@@ -14,8 +14,8 @@ use sets::counter::Handed;
 use sets::fill::Filled;
 use sets::intersection;
 ghost use mathlib.Core.Path.{_≡_};
-ghost use Rattle.transitions.specs.ContractCells.{stores, Moved≡};
-ghost use Rattle.transitions.specs.TransitionCells.{Name≡, Names≡, advanced, sameTaken, otherTaken, boundNames, PairOut, pairTaken, boundName, AtomOut, atomTaken, pairSplit, atomSplit};
+ghost use Rattle.transitions.specs.ContractCells.{stores, MovedOut};
+ghost use Rattle.transitions.specs.TransitionCells.{advanced, sameTaken, otherTaken, boundNames, PairOut, pairTaken, boundName, AtomOut, atomTaken, pairSplit, atomSplit};
 
 // Between two bindings an environment has at most 4,096 cells and those of the new value: it may be over, and what follows not.
 pub const BETWEEN: usize = 8192;
@@ -33,7 +33,7 @@ fn advance(
     et2: &mut [u16],
     c: Configuration,
 ) -> Moved
-    ensures { λ r. ⌜ Moved≡ r (stores (now (io .exit)) (now (ev .exit)) (now (et .exit)) (now (av .exit)) (now (q .exit)) (now (io2 .exit)) (now (ev2 .exit)) (now (et2 .exit))) (advanced k (stores (now (io .entry)) (now (ev .entry)) (now (et .entry)) (now (av .entry)) (now (q .entry)) (now (io2 .entry)) (now (ev2 .entry)) (now (et2 .entry))) c) ⌝ }
+    ensures { λ r. ⌜ MovedOut r (stores (now (io .exit)) (now (ev .exit)) (now (et .exit)) (now (av .exit)) (now (q .exit)) (now (io2 .exit)) (now (ev2 .exit)) (now (et2 .exit))) (advanced k (stores (now (io .entry)) (now (ev .entry)) (now (et .entry)) (now (av .entry)) (now (q .entry)) (now (io2 .entry)) (now (ev2 .entry)) (now (et2 .entry))) c) ⌝ }
 {
     let m = contract::contract(k, io, ev, et, av, q, io2, ev2, et2, c);
     match m {
@@ -59,7 +59,7 @@ pub(crate) fn take_same(
     left: u16,
     right: u16,
 ) -> Moved
-    ensures { λ r. ⌜ Moved≡ r (stores (now (io .exit)) (now (ev .exit)) (now (et .exit)) (now (av .exit)) (now (q .exit)) (now (io2 .exit)) (now (ev2 .exit)) (now (et2 .exit))) (sameTaken (now (marks .entry)) (now (ends .entry)) (stores (now (io .entry)) (now (ev .entry)) (now (et .entry)) (now (av .entry)) (now (q .entry)) (now (io2 .entry)) (now (ev2 .entry)) (now (et2 .entry))) c left right) ⌝ }
+    ensures { λ r. ⌜ MovedOut r (stores (now (io .exit)) (now (ev .exit)) (now (et .exit)) (now (av .exit)) (now (q .exit)) (now (io2 .exit)) (now (ev2 .exit)) (now (et2 .exit))) (sameTaken (now (marks .entry)) (now (ends .entry)) (stores (now (io .entry)) (now (ev .entry)) (now (et .entry)) (now (av .entry)) (now (q .entry)) (now (io2 .entry)) (now (ev2 .entry)) (now (et2 .entry))) c left right) ⌝ }
 {
     let counter = c.counter;
     let place = branch::true_of(marks, ends, c.place, true);
@@ -84,7 +84,7 @@ pub(crate) fn take_other(
     left: u16,
     right: u16,
 ) -> Moved
-    ensures { λ r. ⌜ Moved≡ r (stores (now (io .exit)) (now (ev .exit)) (now (et .exit)) (now (av .exit)) (now (q .exit)) (now (io2 .exit)) (now (ev2 .exit)) (now (et2 .exit))) (otherTaken (now (marks .entry)) (now (ends .entry)) (stores (now (io .entry)) (now (ev .entry)) (now (et .entry)) (now (av .entry)) (now (q .entry)) (now (io2 .entry)) (now (ev2 .entry)) (now (et2 .entry))) c left right) ⌝ }
+    ensures { λ r. ⌜ MovedOut r (stores (now (io .exit)) (now (ev .exit)) (now (et .exit)) (now (av .exit)) (now (q .exit)) (now (io2 .exit)) (now (ev2 .exit)) (now (et2 .exit))) (otherTaken (now (marks .entry)) (now (ends .entry)) (stores (now (io .entry)) (now (ev .entry)) (now (et .entry)) (now (av .entry)) (now (q .entry)) (now (io2 .entry)) (now (ev2 .entry)) (now (et2 .entry))) c left right) ⌝ }
 {
     let counter = c.counter;
     let place = branch::false_of(marks, ends, c.place, true);
@@ -109,7 +109,7 @@ pub fn bind_names(
     end: usize,
     limit: usize,
 ) -> Bound
-    ensures { λ r. ⌜ Names≡ r (now (ev .exit)) (now (et .exit)) (now (ev2 .exit)) (now (et2 .exit)) (boundNames (now (nums .entry)) j (now (ev .entry)) (now (et .entry)) (now (ev2 .entry)) (now (et2 .entry)) env (now (val .entry)) mid end limit) ⌝ }
+    ensures { λ r. ⌜ (let w = boundNames (now (nums .entry)) j (now (ev .entry)) (now (et .entry)) (now (ev2 .entry)) (now (et2 .entry)) env (now (val .entry)) mid end limit in (r ≡ w .answer) × (now (ev .exit) ≡ w .ev) × (now (et .exit) ≡ w .et) × (now (ev2 .exit) ≡ w .ev2) × (now (et2 .exit) ≡ w .et2)) ⌝ }
 {
     let h = cell::cell(nums, j);
     let t = cell::cell(nums, configuration::past(j, 1));
@@ -159,7 +159,7 @@ pub fn bind_atom(
     place: usize,
     code: u16,
 ) -> Bound
-    ensures { λ r. ⌜ Name≡ r (now (av .exit)) (boundName (now (marks .entry)) (now (nums .entry)) (now (ends .entry)) (now (av .entry)) env place code) ⌝ }
+    ensures { λ r. ⌜ (let w = boundName (now (marks .entry)) (now (nums .entry)) (now (ends .entry)) (now (av .entry)) env place code in (r ≡ w .answer) × (now (av .exit) ≡ w .av)) ⌝ }
 {
     let j = branch::right_of(marks, ends, place);
     let x = cell::cell(nums, configuration::past(j, 2));
@@ -212,7 +212,7 @@ pub(crate) fn split_pair(
     c: Configuration,
     var: u16,
 ) -> Moved
-    ensures { λ r. ⌜ Moved≡ r (stores (now (io .exit)) (now (ev .exit)) (now (et .exit)) (now (av .exit)) (now (q .exit)) (now (io2 .exit)) (now (ev2 .exit)) (now (et2 .exit))) (pairSplit (now (marks .entry)) (now (nums .entry)) (now (ends .entry)) (stores (now (io .entry)) (now (ev .entry)) (now (et .entry)) (now (av .entry)) (now (q .entry)) (now (io2 .entry)) (now (ev2 .entry)) (now (et2 .entry))) c var) ⌝ }
+    ensures { λ r. ⌜ MovedOut r (stores (now (io .exit)) (now (ev .exit)) (now (et .exit)) (now (av .exit)) (now (q .exit)) (now (io2 .exit)) (now (ev2 .exit)) (now (et2 .exit))) (pairSplit (now (marks .entry)) (now (nums .entry)) (now (ends .entry)) (stores (now (io .entry)) (now (ev .entry)) (now (et .entry)) (now (av .entry)) (now (q .entry)) (now (io2 .entry)) (now (ev2 .entry)) (now (et2 .entry))) c var) ⌝ }
 {
     let counter = c.counter;
     let handed = counter.take();
@@ -253,7 +253,7 @@ pub(crate) fn split_atom(
     c: Configuration,
     var: u16,
 ) -> Moved
-    ensures { λ r. ⌜ Moved≡ r (stores (now (io .exit)) (now (ev .exit)) (now (et .exit)) (now (av .exit)) (now (q .exit)) (now (io2 .exit)) (now (ev2 .exit)) (now (et2 .exit))) (atomSplit (now (marks .entry)) (now (nums .entry)) (now (ends .entry)) (stores (now (io .entry)) (now (ev .entry)) (now (et .entry)) (now (av .entry)) (now (q .entry)) (now (io2 .entry)) (now (ev2 .entry)) (now (et2 .entry))) c var) ⌝ }
+    ensures { λ r. ⌜ MovedOut r (stores (now (io .exit)) (now (ev .exit)) (now (et .exit)) (now (av .exit)) (now (q .exit)) (now (io2 .exit)) (now (ev2 .exit)) (now (et2 .exit))) (atomSplit (now (marks .entry)) (now (nums .entry)) (now (ends .entry)) (stores (now (io .entry)) (now (ev .entry)) (now (et .entry)) (now (av .entry)) (now (q .entry)) (now (io2 .entry)) (now (ev2 .entry)) (now (et2 .entry))) c var) ⌝ }
 {
     let counter = c.counter;
     let handed = counter.take();

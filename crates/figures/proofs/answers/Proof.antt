@@ -1,4 +1,3 @@
--- `answers` goes on by a case. The measure is what is left of the text.
 use Prim.Native.Nat.{_-_}
 use lib.ListN.{length}
 use borrow.Author.Needs.{needs}
@@ -6,15 +5,18 @@ use Rattle.figures.proofs.answers.Statement.{statement}
 use Rattle.figures.proofs.answers.Tie as tie
 use Rattle.figures.proofs.answers.Reads as reads
 use Rattle.figures.proofs.answers.Lts as lts
-use Rattle.figures.proofs.answer.Reads as answer-reads
 use Rattle.figures.proofs.line_end.Reads as line-end-reads
+use Rattle.figures.proofs.list_case.Reads as list-case-reads
+use Rattle.figures.proofs.lists.Reads as lists-reads
 use Rattle.figures.proofs.part.Reads as part-reads
+use Rattle.figures.proofs.run_case.Reads as run-case-reads
+use Rattle.io.proofs.write_all.Reads as write-all-reads
 
 abbrev Inv-loop : tie.InvT-loop
-Inv-loop text from₀ from = Unit {0}
+Inv-loop text from₀ t8 from = Unit {0}
 
 abbrev μ-loop : tie.MeasureT-loop
-μ-loop text from₀ from = length text - from
+μ-loop text from₀ t8 from = length text - from
 
 loop-holds : tie.Need-loop-holds Inv-loop μ-loop
 loop-holds c = search needs
@@ -34,26 +36,44 @@ add-line-end-2 c = search needs
 line-end-requires-3 : tie.Need-line-end-requires-3 Inv-loop μ-loop
 line-end-requires-3 c κs = search needs
 
-add-part : tie.Need-add-part Inv-loop μ-loop
-add-part c = search needs
-
 part-requires : tie.Need-part-requires Inv-loop μ-loop
 part-requires c κs = search needs
 
-add-part-2 : tie.Need-add-part-2 Inv-loop μ-loop
-add-part-2 c = search needs
+write-all-requires : tie.Need-write-all-requires Inv-loop μ-loop
+write-all-requires c κs = search needs
+
+slice-aggregate-write-all : tie.Need-slice-aggregate-write-all Inv-loop μ-loop
+slice-aggregate-write-all c = search needs
+
+write-all-requires-2 : tie.Need-write-all-requires-2 Inv-loop μ-loop
+write-all-requires-2 c κs = search needs
+
+add-part : tie.Need-add-part Inv-loop μ-loop
+add-part c = search needs
 
 part-requires-2 : tie.Need-part-requires-2 Inv-loop μ-loop
 part-requires-2 c κs = search needs
 
-add-part-3 : tie.Need-add-part-3 Inv-loop μ-loop
-add-part-3 c = search needs
+add-part-2 : tie.Need-add-part-2 Inv-loop μ-loop
+add-part-2 c = search needs
 
 part-requires-3 : tie.Need-part-requires-3 Inv-loop μ-loop
 part-requires-3 c κs = search needs
 
-answer-requires : tie.Need-answer-requires Inv-loop μ-loop
-answer-requires c κs = search needs
+add-part-3 : tie.Need-add-part-3 Inv-loop μ-loop
+add-part-3 c = search needs
+
+part-requires-4 : tie.Need-part-requires-4 Inv-loop μ-loop
+part-requires-4 c κs = search needs
+
+lists-requires : tie.Need-lists-requires Inv-loop μ-loop
+lists-requires c κs = search needs
+
+list-case-requires : tie.Need-list-case-requires Inv-loop μ-loop
+list-case-requires c κs = search needs
+
+run-case-requires : tie.Need-run-case-requires Inv-loop μ-loop
+run-case-requires c κs = search needs
 
 add-from : tie.Need-add-from Inv-loop μ-loop
 add-from c = search needs
@@ -79,13 +99,19 @@ answers-spec =
     line-end-requires-2
     add-line-end-2
     line-end-requires-3
-    add-part
     part-requires
-    add-part-2
+    write-all-requires
+    slice-aggregate-write-all
+    write-all-requires-2
+    add-part
     part-requires-2
-    add-part-3
+    add-part-2
     part-requires-3
-    answer-requires
+    add-part-3
+    part-requires-4
+    lists-requires
+    list-case-requires
+    run-case-requires
     add-from
     loop-less
     loop-again

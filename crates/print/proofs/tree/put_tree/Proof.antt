@@ -5,7 +5,6 @@ use Rattle.print.specs.Sink.{sink, puts}
 use Rattle.print.proofs.SinkLaws.{behind, onward, puts-none}
 use Rattle.print.specs.TreeText.{symbolText, treeFrom, treeText}
 use Rattle.print.proofs.TextTurns.{tree-start, tree-pair, tree-leaf, tree-end}
-use Rattle.print.proofs.TextTurns.{tree-pair, tree-leaf, tree-end}
 use borrow.Author.Needs.{needs}
 use Rattle.print.proofs.tree.put_tree.Statement.{statement}
 use Rattle.print.proofs.tree.put_tree.Tie as tie

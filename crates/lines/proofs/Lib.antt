@@ -1,0 +1,4 @@
+pub mod LineLaws
+pub mod ReadingLaws
+pub mod EndLengths
+pub mod EndLaws

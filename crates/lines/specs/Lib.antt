@@ -1,0 +1,3 @@
+pub mod LineCells
+pub mod EndCells
+pub mod LineReading

@@ -1,0 +1,4 @@
+pub mod TrailLaws
+pub mod SavedTurns
+pub mod SavedLaws
+pub mod ReplayTurns

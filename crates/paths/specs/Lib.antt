@@ -1,0 +1,3 @@
+pub mod TrailCells
+pub mod SavedCells
+pub mod ReplayCells

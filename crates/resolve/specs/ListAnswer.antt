@@ -1,0 +1,101 @@
+-- What `list` answers, and what it leaves in the two lent storages (01, "The walk and what stops it", "From the state").
+use Prim.Native.Nat.{ℕ, _-_}
+use mathlib.Core.Bool.{Bool, true, false, cond}
+use mathlib.Core.List.{List, _++_}
+use lib.Dec.{ltb}
+use lib.ListN.{length, replicate}
+use Rattle.language.specs.Tokens.{ofProgram, ofJob}
+use Rattle.semantics.specs.Tree.{Line}
+use Rattle.semantics.specs.Walk.{stop21, stop22, stop23, Word, whole, cut, stop, wordOf, linesOf, countOf}
+use Rattle.semantics.specs.Answer as meaning
+use Rattle.texts.specs.ReadCells.{zeros}
+use Rattle.lines.specs.LineCells.{linesCells, answerRoom}
+use Rattle.resolve.specs.RunAnswer.{workCells}
+use Rattle.resolve.specs.declared.list.Answer.{Answer}
+use Rattle.resolve.specs.declared.list.Answer.the-variants.{Whole, Cut, Stop21, Stop22, Stop23, Program, Job, Short}
+
+-- an answer, the working storage and the answer storage
+pub record ListLeft : Type 0 where
+  pub answer : Answer
+  pub work : List ℕ
+  pub cells : List ℕ
+
+-- by the first word of the listing, the number of its lines and of the transitions
+abbrev pub worded : Word → ℕ → ℕ → Answer
+worded whole lines count = Whole lines count
+worded cut lines count = Cut lines count
+worded (stop stop21) lines count = Stop21 lines count
+worded (stop stop22) lines count = Stop22 lines count
+worded (stop stop23) lines count = Stop23 lines count
+
+abbrev pub answerOf : meaning.Answer meaning.Listed → Answer
+answerOf (meaning.Answer.answered w) = worded (wordOf (w .walked)) (length (linesOf (w .walked))) (countOf (w .walked))
+answerOf (meaning.Answer.refused ofProgram r) = Program (r .number) (r .at)
+answerOf (meaning.Answer.refused ofJob r) = Job (r .number) (r .at)
+
+-- "the lines found before, as its beginning; zeros follow to the end"
+abbrev pub linesThen : List Line → List ℕ → List ℕ
+linesThen ls d = linesCells ls ++ replicate (length d - length (linesCells ls)) 0
+
+-- after a refusal "answer storage unchanged"
+abbrev pub cellsAfter : meaning.Answer meaning.Listed → List ℕ → List ℕ
+cellsAfter (meaning.Answer.answered w) d = linesThen (linesOf (w .walked)) d
+cellsAfter (meaning.Answer.refused t r) d = d
+
+-- "20 lent storage shorter than its least length": in cells
+abbrev pub tooShort : List ℕ → List ℕ → Bool
+tooShort work answer = cond (ltb (length work) workCells) true (ltb (length answer) answerRoom)
+
+-- "before all else, .. nothing touched"
+abbrev pub unlessShort : Bool → ListLeft → List ℕ → List ℕ → ListLeft
+unlessShort true w work answer = record { answer = Short; work = work; cells = answer }
+unlessShort false w work answer = w
+
+-- "Working storage is zero after each call but one refused with 20."
+unfoldable pub listLeft : List ℕ → List ℕ → List ℕ → List ℕ → ListLeft
+listLeft program job work answer =
+    unlessShort (tooShort work answer) (record { answer = answerOf (meaning.list program job); work = zeros work; cells = cellsAfter (meaning.list program job) answer }) work answer
+
+-- 01's number for each case: 1 to 12 of a refused text, 20, 21 to 23; whole and cut have none
+abbrev pub numberOf : Answer → ℕ
+numberOf (Whole lines count) = 0
+numberOf (Cut lines count) = 0
+numberOf (Stop21 lines count) = 21
+numberOf (Stop22 lines count) = 22
+numberOf (Stop23 lines count) = 23
+numberOf (Program number offset) = number
+numberOf (Job number offset) = number
+numberOf Short = 20
+
+-- "one that falls on neither text": offset 0
+abbrev pub offsetOf : Answer → ℕ
+offsetOf (Whole lines count) = 0
+offsetOf (Cut lines count) = 0
+offsetOf (Stop21 lines count) = 0
+offsetOf (Stop22 lines count) = 0
+offsetOf (Stop23 lines count) = 0
+offsetOf (Program number offset) = offset
+offsetOf (Job number offset) = offset
+offsetOf Short = 0
+
+-- the lines in the answer storage
+abbrev pub linesIn : Answer → ℕ
+linesIn (Whole lines count) = lines
+linesIn (Cut lines count) = lines
+linesIn (Stop21 lines count) = lines
+linesIn (Stop22 lines count) = lines
+linesIn (Stop23 lines count) = lines
+linesIn (Program number offset) = 0
+linesIn (Job number offset) = 0
+linesIn Short = 0
+
+-- "It counts each transition of the tree once, and that count is the one reported"
+abbrev pub transitionsOf : Answer → ℕ
+transitionsOf (Whole lines count) = count
+transitionsOf (Cut lines count) = count
+transitionsOf (Stop21 lines count) = count
+transitionsOf (Stop22 lines count) = count
+transitionsOf (Stop23 lines count) = count
+transitionsOf (Program number offset) = 0
+transitionsOf (Job number offset) = 0
+transitionsOf Short = 0

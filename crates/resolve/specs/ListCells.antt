@@ -1,0 +1,50 @@
+-- Listing two texts in cells: what each function of list.rt answers and leaves.
+use Prim.Native.Nat.{ℕ}
+use mathlib.Core.Path.{_≡_}
+use mathlib.Core.Bool.{false, cond}
+use mathlib.Core.List.{List}
+use Rattle.texts.specs.ReadCells.{zeros}
+use Rattle.syntax.specs.declared.job_ends.JobEnds.{JobEnds}
+use Rattle.syntax.specs.declared.numerals.Numerals.{Numerals}
+use Rattle.walker.specs.WalkCells.{WalkedAnswer}
+use Rattle.walker.specs.JobCells.{walkJob}
+use Rattle.expansion.specs.declared.found.Found.{Found}
+use Rattle.expansion.specs.declared.found.Ending.{Ending}
+use Rattle.expansion.specs.declared.found.Ending.the-variants.{Done, Over, Full, Spent}
+use Rattle.expansion.specs.declared.found.Walked.{Walked}
+use Rattle.resolve.specs.ListAnswer.{ListLeft}
+use Rattle.texts.specs.BothCells.{BothAnswer, bothOver}
+use Rattle.texts.specs.declared.both.Both.{Both}
+use Rattle.texts.specs.declared.both.Both.the-variants.{Accepted, Program as OfProgram, Job as OfJob, Short as TooShort}
+use Rattle.resolve.specs.declared.list.Answer.{Answer}
+use Rattle.resolve.specs.declared.list.Answer.the-variants.{Whole, Cut, Stop21, Stop22, Stop23, Program, Job, Short}
+
+abbrev pub endedAs : Ending → Found → Answer
+endedAs Done f = cond (f .cut) (Cut (f .lines .count) (f .count)) (Whole (f .lines .count) (f .count))
+endedAs Over f = Stop21 (f .lines .count) (f .count)
+endedAs Full f = Stop22 (f .lines .count) (f .count)
+endedAs Spent f = Stop23 (f .lines .count) (f .count)
+
+abbrev pub cameTo : Walked → Answer
+cameTo w = endedAs (w .ending) (w .found)
+
+abbrev pub ListOut : Answer → List ℕ → List ℕ → ListLeft → Type 0
+ListOut r work d w = (r ≡ w .answer) × (work ≡ w .work) × (d ≡ w .cells)
+
+abbrev pub walkLeft : List ℕ → WalkedAnswer → ListLeft
+walkLeft work w = record { answer = cameTo (w .walked); work = work; cells = w .answer }
+
+-- the walk of accepted texts, whose parts stand in the storages, or a refusal
+abbrev pub afterBoth : (ℕ → JobEnds → Numerals → WalkedAnswer) → List ℕ → List ℕ → Both → ListLeft
+afterBoth f work d (Accepted c n e k) = walkLeft work (f c e k)
+afterBoth f work d (OfProgram number offset) = record { answer = Program number offset; work = work; cells = d }
+afterBoth f work d (OfJob number offset) = record { answer = Job number offset; work = work; cells = d }
+afterBoth f work d TooShort = record { answer = Short; work = work; cells = d }
+
+abbrev pub listBehind : List ℕ → BothAnswer → ListLeft
+listBehind d w =
+    let j = w .job in
+    afterBoth (λ c e k. walkJob (w .marks) (w .nums) (j .placed .ends) (j .placed .heads) c (j .jmarks) (j .jnums) e k (zeros d)) (j .work) d (j .placed .texts)
+
+unfoldable pub listTexts : List ℕ → List ℕ → List ℕ → List ℕ → ListLeft
+listTexts program job work d = listBehind d (bothOver false program job work)

@@ -1,0 +1,121 @@
+// The resolver over two texts (01, "The walk and what stops it"): the lines that the job's inputs and wanted output come to. What it
+// answers and leaves is defined in specs/ListAnswer.antt.
+use expansion::found::Ending;
+use expansion::found::Walked;
+use texts::both::Both;
+use texts::both::read_both;
+use texts::clear::clear;
+use walker::job::walk_job;
+ghost use mathlib.Core.Path.{_≡_};
+ghost use Rattle.language.specs.Source.{SProg, SJob, prog, class};
+ghost use Rattle.language.specs.JobCheck.{lister};
+ghost use Rattle.language.specs.Reading.{accepted, reading};
+ghost use Rattle.resolve.specs.ListAnswer.{listLeft};
+ghost use Rattle.resolve.specs.ListDemand.{Ended, StoredListing};
+ghost use Rattle.resolve.specs.ListCells.{cameTo, ListOut, listTexts};
+
+// The least lengths of the lent storages, in cells.
+pub const WORK: usize = 8194;
+
+pub const ANSWER: usize = 17408;
+
+// How many lines stand in the answer storage and how many transitions were made, by the listing's first word; the refusal of a text (1 to
+// 12) with its offset; 20.
+pub enum Answer {
+    Whole { lines: usize, count: usize },
+    Cut { lines: usize, count: usize },
+    Stop21 { lines: usize, count: usize },
+    Stop22 { lines: usize, count: usize },
+    Stop23 { lines: usize, count: usize },
+    Program { number: usize, offset: usize },
+    Job { number: usize, offset: usize },
+    Short,
+}
+
+// "A walk that isn't stopped ends as cut if a configuration N deep is no end, else as whole."
+fn came_to(w: Walked) -> Answer
+    ensures { λ r. ⌜ r ≡ cameTo w ⌝ }
+{
+    let ending = w.ending;
+    let found = w.found;
+    let all = found.lines;
+    let lines = all.count;
+    let count = found.count;
+    match ending {
+        Ending::Done => {
+            if found.cut {
+                return Answer::Cut { lines, count };
+            }
+            Answer::Whole { lines, count }
+        }
+        Ending::Over => Answer::Stop21 { lines, count },
+        Ending::Full => Answer::Stop22 { lines, count },
+        Ending::Spent => Answer::Stop23 { lines, count },
+    }
+}
+
+// The two texts, into storage that is long enough.
+fn list_texts(program: &[u8], job: &[u8], work: &mut [u16], answer: &mut [u16]) -> Answer
+    ensures { λ r. ⌜ ListOut r (now (work .exit)) (now (answer .exit)) (listTexts (now (program .entry)) (now (job .entry)) (now (work .entry)) (now (answer .entry))) ⌝ }
+{
+    let mut marks: [u16; 4097] = [0; 4097];
+    let mut nums: [u16; 4097] = [0; 4097];
+    let mut ends: [u16; 4097] = [0; 4097];
+    let mut heads: [u16; 64] = [0; 64];
+    let mut jmarks: [u16; 4097] = [0; 4097];
+    let mut jnums: [u16; 4097] = [0; 4097];
+    let mut symbols: [u16; 2048] = [0; 2048];
+    let both = read_both(
+        false,
+        program,
+        job,
+        &mut marks,
+        &mut nums,
+        &mut ends,
+        &mut heads,
+        &mut jmarks,
+        &mut jnums,
+        &mut symbols,
+        work,
+    );
+    match both {
+        Both::Program { number, offset } => Answer::Program { number, offset },
+        Both::Job { number, offset } => Answer::Job { number, offset },
+        Both::Short => Answer::Short,
+        Both::Accepted {
+            count,
+            symbols: _,
+            parts,
+            numerals,
+        } => {
+            clear(answer);
+            let walked = walk_job(
+                &marks,
+                &nums,
+                &ends,
+                &heads,
+                count,
+                &jmarks,
+                &jnums,
+                parts,
+                numerals,
+                answer,
+            );
+            came_to(walked)
+        }
+    }
+}
+
+// Walks the program from the job's start by figure 10 of 001. The lines stand in `answer`, zeros behind them; `work` is zero after the
+// call. 20 comes before all else and touches nothing. Where the answer is Whole or Cut, demand 3 holds of the lines read back from `answer`.
+pub fn list(program: &[u8], job: &[u8], work: &mut [u16], answer: &mut [u16]) -> Answer
+    ensures { λ r. ⌜ (let w = listLeft (now (program .entry)) (now (job .entry)) (now (work .entry)) (now (answer .entry)) in (r ≡ w .answer) × (now (work .exit) ≡ w .work) × (now (answer .exit) ≡ w .cells)) × ((s : SProg) (t : SJob) → reading lister (now (program .entry)) (now (job .entry)) ≡ accepted s t → Ended r → StoredListing (prog s) (class t) (t .steps .num) r (now (answer .exit))) ⌝ }
+{
+    if work.len() < WORK {
+        return Answer::Short;
+    }
+    if answer.len() < ANSWER {
+        return Answer::Short;
+    }
+    list_texts(program, job, work, answer)
+}

@@ -1,0 +1,7 @@
+pub mod ForwardTurns
+pub mod OutputLaws
+pub mod RunLaws
+pub mod ForwardLaws
+pub mod StepLaws
+pub mod RunnerLaws
+pub mod InputsTurns

@@ -1,0 +1,52 @@
+use mathlib.Core.Path.{refl}
+use borrow.Author.Needs.{needs}
+use Rattle.runner.proofs.inputs.settle.Statement.{statement}
+use Rattle.runner.proofs.inputs.settle.Tie as tie
+use Rattle.runner.proofs.inputs.settle.Reads as reads
+use Rattle.runner.proofs.inputs.settle.Lts as lts
+use Rattle.texts.proofs.clear.clear.Reads as clear-reads
+
+enum-known-ran : tie.Need-enum-known-ran
+enum-known-ran c = search needs
+
+enum-told : tie.Need-enum-told
+enum-told c = search needs
+
+clear-requires : tie.Need-clear-requires
+clear-requires c κs = search needs
+
+enum-told-2 : tie.Need-enum-told-2
+enum-told-2 c = search needs
+
+clear-requires-2 : tie.Need-clear-requires-2
+clear-requires-2 c κs = search needs
+
+returns : tie.Need-returns
+returns c = rw (c .before .ran .given .1) (refl, refl)
+
+same-length : tie.Need-same-length
+same-length c = search needs
+
+returns-2 : tie.Need-returns-2
+returns-2 c = let o = c .before .before in rw (o .before .before .enum-told .given .1) (refl, o .clear .ensures)
+
+same-length-2 : tie.Need-same-length-2
+same-length-2 c = search needs
+
+returns-3 : tie.Need-returns-3
+returns-3 c = let o = c .before .before in rw (o .before .before .enum-told2 .given .1) (refl, o .clear2 .ensures)
+
+pub settle-spec : {M : Type 1} → statement M
+settle-spec =
+    tie.close
+    (tie.spec
+    enum-known-ran
+    enum-told
+    clear-requires
+    enum-told-2
+    clear-requires-2
+    returns
+    same-length
+    returns-2
+    same-length-2
+    returns-3)

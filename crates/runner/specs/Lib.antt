@@ -1,0 +1,3 @@
+pub mod OutputCells
+pub mod ForwardCells
+pub mod InputsCells

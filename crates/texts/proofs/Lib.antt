@@ -1,0 +1,4 @@
+pub mod ReadLaws
+pub mod Reading
+pub mod BothTurns
+pub mod BothRead

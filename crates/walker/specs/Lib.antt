@@ -1,0 +1,3 @@
+pub mod AheadCells
+pub mod WalkCells
+pub mod JobCells
