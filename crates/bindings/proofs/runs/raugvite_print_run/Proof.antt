@@ -1,0 +1,27 @@
+use Rattle.resolve.specs.declared.run.Answer.{Answer}
+use Rattle.print.proofs.ListTurns.{same-text}
+use Rattle.print.specs.RanText.{ranText}
+use mathlib.Core.Path.{ap}
+use borrow.Author.Needs.{needs}
+use Rattle.bindings.proofs.runs.raugvite_print_run.Statement.{statement}
+use Rattle.bindings.proofs.runs.raugvite_print_run.Tie as tie
+use Rattle.bindings.proofs.runs.raugvite_print_run.Reads as reads
+use Rattle.bindings.proofs.runs.raugvite_print_run.Lts as lts
+use Rattle.bindings.proofs.runs.answer_from.Reads as answer-from-reads
+use Rattle.print.proofs.ran.print_run.Reads as print-run-reads
+
+answer-from-requires : tie.Need-answer-from-requires
+answer-from-requires c κs = search needs
+
+print-run-requires : tie.Need-print-run-requires
+print-run-requires c κs = search needs
+
+same-length : tie.Need-same-length
+same-length c = search needs
+
+returns : tie.Need-returns
+returns c = let a = c .before .before .before .before .before .before .before .before .before .args in same-text _ _ (ap (λ (x : Answer). ranText (a .program .now) (a .job .now) (a .cells .now) x) (c .before .before .before .before .answer-from .ensures)) (c .before .before .print-run .ensures)
+
+pub raugvite-print-run-spec : {M : Type 1} → statement M
+raugvite-print-run-spec =
+    tie.close (tie.spec answer-from-requires print-run-requires same-length returns)

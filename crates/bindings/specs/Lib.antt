@@ -1,0 +1,2 @@
+pub mod ListNumbers
+pub mod RunNumbers

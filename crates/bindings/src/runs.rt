@@ -1,0 +1,141 @@
+// A run of two texts, and its print.
+use crate::numbers::store;
+use print::ran::print_run;
+use resolve::run;
+use resolve::run::Answer;
+ghost use mathlib.Core.Path.{_≡_};
+ghost use Prim.Native.Nat.{_-_, min};
+ghost use lib.ListN.{length, set};
+ghost use Rattle.resolve.specs.RunAnswer.{runLeft};
+ghost use Rattle.print.specs.Sink.{windowed};
+ghost use Rattle.print.specs.RanText.{ranText};
+ghost use Rattle.bindings.specs.RunNumbers.{caseOf, firstOf, secondOf, answerFrom};
+
+fn case_of(a: Answer) -> usize
+    ensures { λ r. ⌜ r ≡ caseOf a ⌝ }
+{
+    match a {
+        Answer::Value {
+            steps: _,
+            length: _,
+        } => 0,
+        Answer::Over => 1,
+        Answer::NotWithin => 2,
+        Answer::Program {
+            number: _,
+            offset: _,
+        } => 3,
+        Answer::Job {
+            number: _,
+            offset: _,
+        } => 4,
+        Answer::Short => 5,
+    }
+}
+
+fn first_of(a: Answer) -> usize
+    ensures { λ r. ⌜ r ≡ firstOf a ⌝ }
+{
+    match a {
+        Answer::Value { steps, length: _ } => steps,
+        Answer::Over => 0,
+        Answer::NotWithin => 0,
+        Answer::Program { number, offset: _ } => number,
+        Answer::Job { number, offset: _ } => number,
+        Answer::Short => 20,
+    }
+}
+
+fn second_of(a: Answer) -> usize
+    ensures { λ r. ⌜ r ≡ secondOf a ⌝ }
+{
+    match a {
+        Answer::Value { steps: _, length } => length,
+        Answer::Over => 0,
+        Answer::NotWithin => 0,
+        Answer::Program { number: _, offset } => offset,
+        Answer::Job { number: _, offset } => offset,
+        Answer::Short => 0,
+    }
+}
+
+// The answer of a case and its two numbers; any other case is 20.
+fn answer_from(kind: usize, first: usize, second: usize) -> Answer
+    ensures { λ r. ⌜ r ≡ answerFrom kind first second ⌝ }
+{
+    if kind == 0 {
+        return Answer::Value {
+            steps: first,
+            length: second,
+        };
+    }
+    if kind == 1 {
+        return Answer::Over;
+    }
+    if kind == 2 {
+        return Answer::NotWithin;
+    }
+    if kind == 3 {
+        return Answer::Program {
+            number: first,
+            offset: second,
+        };
+    }
+    if kind == 4 {
+        return Answer::Job {
+            number: first,
+            offset: second,
+        };
+    }
+    Answer::Short
+}
+
+// `resolve::run`: the case of its answer, and in `said` the two numbers of the case.
+#[no_mangle]
+pub extern "C" fn raugvite_run(
+    program: &[u8],
+    job: &[u8],
+    work: &mut [u16],
+    answer: &mut [u16],
+    said: &mut [usize],
+) -> usize
+    ensures { λ r. ⌜ (let w = runLeft (now (program .entry)) (now (job .entry)) (now (work .entry)) (now (answer .entry)) in (r ≡ caseOf (w .answer)) × (now (work .exit) ≡ w .work) × (now (answer .exit) ≡ w .cells) × (now (said .exit) ≡ set (set (now (said .entry)) 0 (firstOf (w .answer))) 1 (secondOf (w .answer)))) ⌝ }
+{
+    let a = run::run(program, job, work, answer);
+    store(said, 0, first_of(a));
+    store(said, 1, second_of(a));
+    case_of(a)
+}
+
+// `print::ran::print_run` of the answer with this case and these two numbers.
+#[no_mangle]
+pub extern "C" fn raugvite_print_run(
+    program: &[u8],
+    job: &[u8],
+    kind: usize,
+    first: usize,
+    second: usize,
+    cells: &[u16],
+    from: usize,
+    out: &mut [u8],
+) -> usize
+    ensures { λ r. ⌜ (let text = ranText (now (program .entry)) (now (job .entry)) (now (cells .entry)) (answerFrom kind first second) in (r ≡ min (length (now (out .entry))) (length text - from)) × (now (out .exit) ≡ windowed (length (now (out .entry))) from text)) ⌝ }
+{
+    let a = answer_from(kind, first, second);
+    print_run(program, job, a, cells, from, out)
+}
+
+// The least lengths of the two storages, in cells.
+#[no_mangle]
+pub extern "C" fn raugvite_run_work() -> usize
+    ensures { λ r. ⌜ r ≡ 8194 ⌝ }
+{
+    run::WORK
+}
+
+#[no_mangle]
+pub extern "C" fn raugvite_run_answer() -> usize
+    ensures { λ r. ⌜ r ≡ 4096 ⌝ }
+{
+    run::ANSWER
+}

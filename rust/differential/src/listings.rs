@@ -1,0 +1,85 @@
+//! Listings: what `list` says, prints and leaves, and what its lines mean.
+use crate::entry::Entry;
+use raugvite::{list_in, list_lengths, print_list, Expression, Listed};
+use reference::expression::{Expression as Tree, Kind};
+use reference::ground::{check_listing, Universe};
+use reference::job_check::Tool;
+use reference::restriction::NonEquality;
+use reference::{Line, Listing, Word};
+
+fn word_of(said: Listed) -> Option<(Word, usize, usize)> {
+    match said {
+        Listed::Whole { lines, count } => Some((Word::Whole, lines, count)),
+        Listed::Cut { lines, count } => Some((Word::Cut, lines, count)),
+        Listed::Stop21 { lines, count } => Some((Word::Stop21, lines, count)),
+        Listed::Stop22 { lines, count } => Some((Word::Stop22, lines, count)),
+        Listed::Stop23 { lines, count } => Some((Word::Stop23, lines, count)),
+        Listed::Program { .. } | Listed::Job { .. } | Listed::Short => None,
+    }
+}
+
+pub struct List;
+
+impl Entry for List {
+    type Said = Listed;
+    const SHORT: Listed = Listed::Short;
+
+    fn lengths() -> (usize, usize) {
+        list_lengths()
+    }
+
+    fn call(program: &[u8], job: &[u8], work: &mut [u16], answer: &mut [u16]) -> Listed {
+        list_in(program, job, work, answer)
+    }
+
+    fn printed(program: &[u8], job: &[u8], said: Listed, answer: &[u16]) -> Vec<u8> {
+        print_list(program, job, said, answer)
+    }
+
+    fn due(program: &[u8], job: &[u8]) -> Vec<u8> {
+        reference::print_listing(&reference::list_texts(program, job))
+    }
+
+    // A line says by the counts it begins with where it ends.
+    fn filled(said: Listed, answer: &[u16]) -> Option<usize> {
+        let (_, lines, _) = word_of(said)?;
+        let end = (0..lines).fold(0, |at, _| {
+            let part = |k: usize| usize::from(answer[at + k]);
+            at + 4 + part(1) + part(2) + 2 * part(3)
+        });
+        Some(end)
+    }
+}
+
+fn tree(e: &Expression) -> Tree {
+    match e {
+        Expression::Symbol(word) => Tree::atom(word),
+        Expression::Any(number) => Tree::variable(Kind::E, u32::from(*number)),
+        Expression::Atom(number) => Tree::variable(Kind::A, u32::from(*number)),
+        Expression::Pair(head, tail) => Tree::pair(tree(head), tree(tail)),
+    }
+}
+
+fn line(l: &raugvite::Line) -> Line {
+    let unequal = l.unequal.iter().map(|(left, right)| NonEquality { left: tree(left), right: tree(right) });
+    Line {
+        steps: l.steps as u32,
+        inputs: l.inputs.iter().map(tree).collect(),
+        output: tree(&l.output),
+        nonequalities: unequal.collect(),
+        bindings: Vec::new(),
+    }
+}
+
+/// Demand 3, tried on about `budget` ground inputs: they are run forwards by the other implementation, and each pair lies in the one of our lines
+/// where it belongs, or in none.
+pub fn meaning(program: &[u8], job: &[u8], budget: usize) -> Result<(), String> {
+    let Ok((checked, read)) = reference::read_texts(program, job, Tool::List) else {
+        return Ok(());
+    };
+    let listing = raugvite::list(program, job);
+    let (word, _, count) = word_of(listing.answer).ok_or("refused")?;
+    let lines = listing.lines.iter().map(line).collect();
+    let ours = Listing::Listed { word, lines, count: count as u32 };
+    check_listing(&checked, &read, &Universe::new(program, job), &ours, budget).map(|_| ())
+}

@@ -1,0 +1,10 @@
+// Links the archive that `rt staticlib bindings` writes.
+use std::path::PathBuf;
+
+fn main() {
+    let root = PathBuf::from(std::env::var("CARGO_MANIFEST_DIR").unwrap()).join("../..");
+    let folder = root.join("target/staticlib");
+    println!("cargo:rustc-link-search=native={}", folder.display());
+    println!("cargo:rustc-link-lib=static=bindings");
+    println!("cargo:rerun-if-changed={}", folder.join("libbindings.a").display());
+}
