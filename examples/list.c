@@ -35,5 +35,5 @@ int main(int count, char **words) {
   }
   free(work);
   free(answer);
-  return 0;
+  return fflush(stdout) != 0 || ferror(stdout);
 }
