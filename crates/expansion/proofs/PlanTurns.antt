@@ -5,16 +5,16 @@ use mathlib.Core.Bool.{Bool, true, false}
 use mathlib.Core.List.{List}
 use lib.ListN.{set}
 use borrow.Author.Tests.{le-leb, lt-leb}
-use Rattle.transitions.specs.ConfigurationCells.{pastIndex}
-use Rattle.transitions.specs.ContractCells.{Stores, stores}
-use Rattle.transitions.specs.LookCells.{LookOut, lookTerm}
+use Rattle.configurations.specs.ConfigurationCells.{pastIndex}
+use Rattle.configurations.specs.ContractCells.{Stores, stores}
+use Rattle.configurations.specs.LookCells.{LookOut, lookTerm}
 use Rattle.transitions.specs.ContradictionCells.{BranchesOut, branchesTested}
 use Rattle.transitions.specs.StepCells.{isCall, cellsOf}
 use Rattle.lines.specs.EndCells.{MeetOut, metEnd}
 use Rattle.paths.specs.TrailCells.{choiceCell}
 use Rattle.paths.specs.SavedCells.{SaveOut}
 use Rattle.expansion.specs.PlanCells.{isResult, chosen, cutAt, afterEnd, keptIf, ChooseOut, chooseCells, PlanOut, planned}
-use Rattle.transitions.specs.declared.look.Look.{Look}
+use Rattle.configurations.specs.declared.look.Look.{Look}
 use Rattle.transitions.specs.declared.contradiction.Branches.{Branches}
 use Rattle.lines.specs.declared.end.Ended.{Ended}
 use Rattle.expansion.specs.declared.plan.Position.{Position}

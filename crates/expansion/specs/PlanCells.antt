@@ -5,16 +5,16 @@ use mathlib.Core.Bool.{Bool, true, false, cond}
 use mathlib.Core.List.{List}
 use lib.Dec.{leb}
 use lib.ListN.{set}
-use Rattle.transitions.specs.ConfigurationCells.{pastIndex}
-use Rattle.transitions.specs.ContractCells.{Stores, stores}
-use Rattle.transitions.specs.LookCells.{lookTerm}
+use Rattle.configurations.specs.ConfigurationCells.{pastIndex}
+use Rattle.configurations.specs.ContractCells.{Stores, stores}
+use Rattle.configurations.specs.LookCells.{lookTerm}
 use Rattle.transitions.specs.ContradictionCells.{branchesTested}
 use Rattle.transitions.specs.StepCells.{isCall, SameStores, cellsOf}
 use Rattle.lines.specs.EndCells.{MeetAnswer, metEnd}
 use Rattle.paths.specs.TrailCells.{choiceCell}
 use Rattle.paths.specs.SavedCells.{SaveAnswer, saveAnswer, savedCells}
-use Rattle.transitions.specs.declared.look.Look.{Look}
-use Rattle.transitions.specs.declared.look.Look.the-variants.{Result, Call, Same, Atom, Pair, Variable, Large}
+use Rattle.configurations.specs.declared.look.Look.{Look}
+use Rattle.configurations.specs.declared.look.Look.the-variants.{Result, Call, Same, Atom, Pair, Variable, Large}
 use Rattle.lines.specs.declared.line.Lines.{Lines}
 use Rattle.lines.specs.declared.end.Ended.{Ended}
 use Rattle.lines.specs.declared.end.Ended.the-variants.{Going, Over as EndedOver, Full as EndedFull}

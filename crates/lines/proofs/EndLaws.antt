@@ -15,12 +15,12 @@ use Rattle.expressions.specs.Contraction.{CRPair}
 use Rattle.expressions.specs.Class.{IOClass, nodesClass}
 use Rattle.expressions.specs.Intersection.{meeting, Intersected, common, disjoint, tooLarge, intersect, nodesMeeting}
 use Rattle.sets.specs.Cells.{cells, cellsAll}
-use Rattle.sets.specs.Meeting.{MetAnswer, intersectCells}
-use Rattle.sets.specs.declared.intersection.Class.{Class}
+use Rattle.unification.specs.Meeting.{MetAnswer, intersectCells}
+use Rattle.unification.specs.declared.intersection.Class.{Class}
 use Rattle.sets.proofs.CellLaws.{cells-nodes}
-use Rattle.sets.proofs.ClassCells.{counted, ClassCells, class-same, class-held}
-use Rattle.sets.proofs.ClassFilling.{Long}
-use Rattle.sets.proofs.IntersectionLaws.{reached, Answered, intersect-cells}
+use Rattle.unification.proofs.ClassCells.{counted, ClassCells, class-same, class-held}
+use Rattle.unification.proofs.ClassFilling.{Long}
+use Rattle.unification.proofs.IntersectionLaws.{reached, Answered, intersect-cells}
 use Rattle.language.specs.Program.{Term, result, Prog}
 use Rattle.language.specs.Tokens.{ofProgram, Token}
 use Rattle.syntax.specs.Placed.{ExpIn, TermIn, resultIn}
@@ -29,18 +29,18 @@ use Rattle.semantics.specs.Trace.{terminal, successorsOf, successors}
 use Rattle.semantics.specs.Tree.{Node, meetingAt}
 use Rattle.semantics.specs.Walk.{meetingOver, Limits, stop21, stop22, stop23, WalkState, Walked, going, stopped, tableFull, withLine, atEnd, expand}
 use Rattle.environments.specs.ValueCells.{environment}
-use Rattle.transitions.specs.ContractCells.{Stores}
-use Rattle.runner.specs.OutputCells.{plainOutput}
+use Rattle.configurations.specs.ContractCells.{Stores}
+use Rattle.configurations.specs.OutputCells.{plainOutput}
 use Rattle.lines.specs.LineCells.{answerRoom, nodesInLine, storedLine}
 use Rattle.lines.specs.EndCells.{endAnswer, goingOn, lineAdded, afterMeeting, MeetAnswer, classAt, metEnd}
-use Rattle.transitions.specs.declared.configuration.Configuration.{Configuration as InCells}
+use Rattle.configurations.specs.declared.configuration.Configuration.{Configuration as InCells}
 use Rattle.lines.specs.declared.line.Lines.{Lines}
 use Rattle.lines.specs.declared.end.Ended.{Ended}
 use Rattle.lines.specs.declared.end.Ended.the-variants.{Going, Over, Full}
-use Rattle.transitions.proofs.ConfigurationLaws.{HoldsPair}
-use Rattle.transitions.proofs.PlaceLaws.{ProgramPlaced}
+use Rattle.configurations.proofs.ConfigurationLaws.{HoldsPair}
+use Rattle.configurations.proofs.PlaceLaws.{ProgramPlaced}
 use Rattle.transitions.proofs.EngineLaws.{TermHeld, starts, stands, HoldsConfiguration}
-use Rattle.runner.proofs.OutputLaws.{Gives, plain-gives}
+use Rattle.configurations.proofs.OutputLaws.{Gives, plain-gives}
 use Rattle.lines.proofs.LineLaws.{LinesHeld, line-stored}
 
 -- What an end comes to: the lines then stand in the answer storage; where the walk stops, that is as it was.

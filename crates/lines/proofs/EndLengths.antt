@@ -6,20 +6,21 @@ use mathlib.Core.List.{List}
 use lib.Dec.{leb, ltb}
 use lib.ListN.{length, length-set}
 use Rattle.sets.specs.Cells.{copied}
-use Rattle.sets.specs.Meeting.{intersectCells}
+use Rattle.unification.specs.Meeting.{intersectCells}
 use Rattle.sets.specs.declared.fill.Filled.{Filled}
 use Rattle.sets.specs.declared.fill.Filled.the-variants.{Done, Over as FilledOver}
-use Rattle.sets.specs.declared.intersection.Class.{Class}
-use Rattle.sets.specs.declared.intersection.Met.{Met}
-use Rattle.sets.specs.declared.intersection.Met.the-variants.{Common, Apart, Over as MetOver, Short}
-use Rattle.sets.proofs.MeetingLengths.{copied-length, SameLengths, intersect-lengths}
+use Rattle.unification.specs.declared.intersection.Class.{Class}
+use Rattle.unification.specs.declared.intersection.Met.{Met}
+use Rattle.unification.specs.declared.intersection.Met.the-variants.{Common, Apart, Over as MetOver, Short}
+use Rattle.sets.proofs.Lengths.{copied-length}
+use Rattle.unification.proofs.MeetingLengths.{SameLengths, intersect-lengths}
 use Rattle.environments.specs.ValueCells.{CellEnv}
 use Rattle.environments.specs.ArgumentCells.{argumentEnd}
-use Rattle.transitions.specs.ConfigurationCells.{pastIndex}
-use Rattle.runner.specs.OutputCells.{plainOutput}
+use Rattle.configurations.specs.ConfigurationCells.{pastIndex}
+use Rattle.configurations.specs.OutputCells.{plainOutput}
 use Rattle.lines.specs.LineCells.{headerStored, nodesInLine, storedLine}
 use Rattle.lines.specs.EndCells.{endAnswer, goingOn, afterMeeting, classAt, afterOutput, metEnd}
-use Rattle.transitions.specs.declared.configuration.Configuration.{Configuration}
+use Rattle.configurations.specs.declared.configuration.Configuration.{Configuration}
 use Rattle.lines.specs.declared.line.Lines.{Lines}
 use Rattle.lines.specs.declared.end.Ended.the-variants.{Full}
 use Rattle.environments.proofs.ArgumentLengths.{evaluated-kept}

@@ -9,13 +9,13 @@ use lib.Seq.{set-at, take-at, drop-at, drop-drop}
 use Rattle.expressions.specs.Expression.{nodes, nodesAll}
 use Rattle.expressions.specs.Class.{IOClass, nodesClass}
 use Rattle.sets.specs.Cells.{cells, cellsAll, restrictionCells, CopyAnswer, copied}
-use Rattle.sets.specs.declared.intersection.Class.{Class}
+use Rattle.unification.specs.declared.intersection.Class.{Class}
 use Rattle.sets.proofs.CellLaws.{cells-nodes, cellsAll-nodes, restrictionCells-nodes, copied-done}
-use Rattle.sets.proofs.ClassCells.{counted, ClassCells, run-held}
+use Rattle.unification.proofs.ClassCells.{counted, ClassCells, run-held}
 use Rattle.sets.proofs.RestrictionLaws.{front-room}
-use Rattle.sets.proofs.IntersectionLaws.{reached}
+use Rattle.unification.proofs.IntersectionLaws.{reached}
 use Rattle.semantics.specs.Tree.{Line}
-use Rattle.transitions.specs.ConfigurationCells.{pastIndex}
+use Rattle.configurations.specs.ConfigurationCells.{pastIndex}
 use Rattle.lines.specs.LineCells.{classCells, lineCells, linesCells, nodesLines, answerRoom, headerStored, partsStored, storedLine}
 use Rattle.lines.specs.declared.line.Lines.{Lines}
 

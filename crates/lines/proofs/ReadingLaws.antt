@@ -15,7 +15,7 @@ use Rattle.semantics.specs.Tree.{Line}
 use Rattle.lines.specs.LineCells.{classCells, lineCells, linesCells}
 use Rattle.lines.specs.LineReading.{atomicAt, TreeRead, treeRead, readTree, readTrees, readNeqs, readClass, readLine, pastLine, readLines}
 use Rattle.lines.specs.declared.line.Lines.{Lines}
-use Rattle.transitions.proofs.CopyLaws.{nodes-positive}
+use Rattle.configurations.proofs.CopyLaws.{nodes-positive}
 use Rattle.lines.proofs.LineLaws.{zeros, class-length, LinesHeld}
 
 atomic-read : (x : AtomicExp) → atomicAt (atomicCode x) ≡ x

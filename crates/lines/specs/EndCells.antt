@@ -4,16 +4,16 @@ use mathlib.Core.Path.{_≡_}
 use mathlib.Core.Bool.{cond}
 use mathlib.Core.List.{List}
 use lib.Dec.{leb, ltb}
-use Rattle.sets.specs.Meeting.{intersectCells}
+use Rattle.unification.specs.Meeting.{intersectCells}
 use Rattle.sets.specs.declared.fill.Filled.{Filled}
 use Rattle.sets.specs.declared.fill.Filled.the-variants.{Done, Over as FilledOver}
-use Rattle.sets.specs.declared.intersection.Class.{Class}
-use Rattle.sets.specs.declared.intersection.Met.{Met}
-use Rattle.sets.specs.declared.intersection.Met.the-variants.{Common, Apart, Over as MetOver, Short}
+use Rattle.unification.specs.declared.intersection.Class.{Class}
+use Rattle.unification.specs.declared.intersection.Met.{Met}
+use Rattle.unification.specs.declared.intersection.Met.the-variants.{Common, Apart, Over as MetOver, Short}
 use Rattle.environments.specs.ValueCells.{CellEnv}
-use Rattle.runner.specs.OutputCells.{plainOutput}
+use Rattle.configurations.specs.OutputCells.{plainOutput}
 use Rattle.lines.specs.LineCells.{nodesInLine, LineAnswer, storedLine}
-use Rattle.transitions.specs.declared.configuration.Configuration.{Configuration}
+use Rattle.configurations.specs.declared.configuration.Configuration.{Configuration}
 use Rattle.lines.specs.declared.line.Lines.{Lines}
 use Rattle.lines.specs.declared.end.Ended.{Ended}
 use Rattle.lines.specs.declared.end.Ended.the-variants.{Going, Over, Full}

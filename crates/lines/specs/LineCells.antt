@@ -6,9 +6,9 @@ use lib.ListN.{length, set}
 use Rattle.expressions.specs.Expression.{nodes, nodesAll}
 use Rattle.expressions.specs.Class.{IOPair, IOClass, nodesClass}
 use Rattle.sets.specs.Cells.{cells, cellsAll, restrictionCells, copied}
-use Rattle.sets.specs.declared.intersection.Class.{Class}
+use Rattle.unification.specs.declared.intersection.Class.{Class}
 use Rattle.semantics.specs.Tree.{Line}
-use Rattle.transitions.specs.ConfigurationCells.{pastIndex}
+use Rattle.configurations.specs.ConfigurationCells.{pastIndex}
 use Rattle.lines.specs.declared.line.Lines.{Lines}
 
 -- inputs, then the output

@@ -2,14 +2,14 @@
 // is a line.
 use crate::line;
 use crate::line::Lines;
-use runner::output;
-use runner::output::End;
+use configurations::configuration::Configuration;
+use configurations::output;
+use configurations::output::End;
 use sets::cell;
 use sets::fill::Filled;
-use sets::intersection;
-use sets::intersection::Class;
-use sets::intersection::Met;
-use transitions::configuration::Configuration;
+use unification::intersection;
+use unification::intersection::Class;
+use unification::intersection::Met;
 ghost use mathlib.Core.Path.{_≡_};
 ghost use Rattle.environments.specs.ValueCells.{environment};
 ghost use Rattle.lines.specs.EndCells.{EndOut, lineAdded, afterMeeting, metEnd};

@@ -1,9 +1,9 @@
 // The lines that a walk has found, in the answer storage one behind the other: of each its steps, how many cells its inputs have,
 // how many its output, how many non-equalities it has; then these cells and the non-equalities' sides.
+use configurations::configuration;
 use environments::store;
 use sets::cell;
-use sets::intersection::Class;
-use transitions::configuration;
+use unification::intersection::Class;
 ghost use mathlib.Core.Path.{_≡_};
 ghost use Rattle.lines.specs.LineCells.{headerStored, nodesInLine, LineOut, storedLine};
 

@@ -16,12 +16,12 @@ mod reader;
 
 use libc::STDIN_FILENO;
 use reader::Problem;
-use sets::intersection;
-use sets::intersection::Class;
-use sets::intersection::Met;
-use sets::intersection::NODES;
 use sets::restriction;
 use sets::restriction::Restricted;
+use unification::intersection;
+use unification::intersection::Class;
+use unification::intersection::Met;
+use unification::intersection::NODES;
 ghost use Prim.Native.Nat.{_≤_};
 ghost use lib.ListN.{length};
 

@@ -3,7 +3,7 @@
 use crate::reader;
 use libc::STDOUT_FILENO;
 use sets::cell;
-use sets::intersection::NODES;
+use unification::intersection::NODES;
 
 // The place in the page, and the pairs that are open.
 struct Printed {

@@ -5,17 +5,17 @@ use mathlib.Core.Bool.{Bool, true, false}
 use mathlib.Core.List.{List}
 use native.Mathlib.Omega.{arith}
 use borrow.Author.Tests.{lt-ltb, le-ltb}
-use Rattle.transitions.specs.ContractCells.{Stores, stores, MovedOut}
-use Rattle.transitions.specs.LookCells.{LookOut, lookTerm}
+use Rattle.configurations.specs.ContractCells.{Stores, stores, MovedOut}
+use Rattle.configurations.specs.LookCells.{LookOut, lookTerm}
 use Rattle.transitions.specs.BranchCells.{trueTaken, falseTaken}
 use Rattle.transitions.specs.StepCells.{isCall, SameStores, cellsOf, StepOut, stepped}
 use Rattle.transitions.proofs.StepTurns.{same-stores}
 use Rattle.paths.specs.TrailCells.{takenAt}
 use Rattle.paths.specs.SavedCells.{LoadAnswer, LoadOut, loadedCells}
 use Rattle.paths.specs.ReplayCells.{Working, working, SameWorking, traced, isThere, FollowAnswer, FollowOut, afterStep, followStep, TraceAnswer, TraceOut, traceAnswer, afterFollow, followFrom, followed, BringOut, fromTrace, fromSaved, loadedWorking, broughtBack}
-use Rattle.transitions.specs.declared.look.Look.{Look}
-use Rattle.transitions.specs.declared.configuration.Configuration.{Configuration}
-use Rattle.transitions.specs.declared.configuration.Moved.{Moved}
+use Rattle.configurations.specs.declared.look.Look.{Look}
+use Rattle.configurations.specs.declared.configuration.Configuration.{Configuration}
+use Rattle.configurations.specs.declared.configuration.Moved.{Moved}
 use Rattle.paths.specs.declared.saved.Entry.{Entry}
 use Rattle.paths.specs.declared.replay.Trace.{Trace}
 use Rattle.paths.specs.declared.replay.Followed.{Followed}

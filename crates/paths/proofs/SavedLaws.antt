@@ -15,17 +15,17 @@ use Rattle.sets.proofs.CellLaws.{restrictionCells-nodes, cells-nodes, cellsAll-
 use Rattle.semantics.specs.Environment.{mapValues}
 use Rattle.semantics.specs.Configuration.{state, nodesValues, nodesState}
 use Rattle.environments.specs.ValueCells.{environment}
-use Rattle.transitions.specs.ContractCells.{Stores, stores}
+use Rattle.configurations.specs.ContractCells.{Stores, stores}
 use Rattle.paths.specs.SavedCells.{capped, sizeOf, headCells, headStored, valuesFrom, namesFrom, atomsFrom, neqsFrom, headFrom, entryStored, headStart, numberAt, headAt, LoadAnswer, loadedBy, loadedCells}
 use Rattle.environments.specs.declared.environment.Counts.{Counts}
-use Rattle.transitions.specs.declared.configuration.Configuration.{Configuration as InCells}
+use Rattle.configurations.specs.declared.configuration.Configuration.{Configuration as InCells}
 use Rattle.environments.proofs.UpdateLaws.{mod-below}
 use Rattle.environments.proofs.TableLaws.{entryCells, entryCells-length}
 use Rattle.environments.proofs.EnvironmentLaws.{valueCells, ends, names, ends-length}
 use Rattle.environments.proofs.ContractionEnvironment.{map-length}
 use Rattle.environments.proofs.CellEnvironments.{values-nodes}
-use Rattle.transitions.proofs.CopyLaws.{names-nodes}
-use Rattle.transitions.proofs.ConfigurationLaws.{HoldsPair, holds-cells, holds-atoms, run-length}
+use Rattle.configurations.proofs.CopyLaws.{names-nodes}
+use Rattle.configurations.proofs.ConfigurationLaws.{HoldsPair, holds-cells, holds-atoms, run-length}
 
 -- a block behind a beginning
 copied-behind : (src dst p b r : List ℕ) (n at : ℕ) → take n src ≡ b → length b ≡ n → dst ≡ p ++ r → length p ≡ at → n ≤ length r → copied src 0 n dst at .cells ≡ (p ++ b) ++ drop n r

@@ -4,9 +4,9 @@ use mathlib.Core.Path.{_≡_, ap, _∙_}
 use mathlib.Core.List.{List}
 use lib.ListN.{length}
 use Rattle.sets.specs.Cells.{copied}
-use Rattle.sets.proofs.MeetingLengths.{copied-length}
+use Rattle.sets.proofs.Lengths.{copied-length}
 use Rattle.paths.specs.SavedCells.{capped, headStored, entryStored, headStart, numberAt, headAt, LoadAnswer, loadedBy, loadedCells}
-use Rattle.transitions.specs.declared.configuration.Configuration.{Configuration}
+use Rattle.configurations.specs.declared.configuration.Configuration.{Configuration}
 
 pub loaded-is : (saved : List ℕ) (top : ℕ) (io ev et av q : List ℕ) (h : ℕ) → h ≡ headStart top → (c : Configuration) → c ≡ headAt saved h → (k : ℕ) → k ≡ numberAt saved h 0 →
     loadedBy saved h c k io ev et av q ≡ loadedCells saved top io ev et av q

@@ -4,18 +4,18 @@ use mathlib.Core.Path.{_≡_}
 use mathlib.Core.Bool.{Bool, true, false, cond}
 use mathlib.Core.List.{List}
 use lib.Dec.{leb, ltb}
-use Rattle.transitions.specs.ConfigurationCells.{pastIndex}
-use Rattle.transitions.specs.ContractCells.{Stores, stores}
+use Rattle.configurations.specs.ConfigurationCells.{pastIndex}
+use Rattle.configurations.specs.ContractCells.{Stores, stores}
 use Rattle.transitions.specs.CallCells.{calledCells}
-use Rattle.transitions.specs.LookCells.{lookTerm}
+use Rattle.configurations.specs.LookCells.{lookTerm}
 use Rattle.transitions.specs.BranchCells.{trueTaken, falseTaken}
 use Rattle.transitions.specs.StepCells.{isCall, SameStores, SteppedAnswer, behindCall, behindBranch, cellsOf, stepped}
 use Rattle.paths.specs.TrailCells.{takenAt}
 use Rattle.paths.specs.SavedCells.{LoadAnswer, loadedCells}
-use Rattle.transitions.specs.declared.look.Look.{Look}
-use Rattle.transitions.specs.declared.configuration.Configuration.{Configuration}
-use Rattle.transitions.specs.declared.configuration.Moved.{Moved}
-use Rattle.transitions.specs.declared.configuration.Moved.the-variants.{On, Contradiction, Over}
+use Rattle.configurations.specs.declared.look.Look.{Look}
+use Rattle.configurations.specs.declared.configuration.Configuration.{Configuration}
+use Rattle.configurations.specs.declared.configuration.Moved.{Moved}
+use Rattle.configurations.specs.declared.configuration.Moved.the-variants.{On, Contradiction, Over}
 use Rattle.paths.specs.declared.replay.Trace.{Trace}
 use Rattle.paths.specs.declared.replay.Followed.{Followed}
 use Rattle.paths.specs.declared.replay.Followed.the-variants.{On as FollowedOn, There, Lost}

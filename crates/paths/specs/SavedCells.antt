@@ -6,8 +6,8 @@ use mathlib.Core.List.{List, [], _∷_}
 use lib.Dec.{leb}
 use lib.ListN.{length, getD}
 use Rattle.sets.specs.Cells.{copied}
-use Rattle.transitions.specs.ConfigurationCells.{pastIndex}
-use Rattle.transitions.specs.declared.configuration.Configuration.{Configuration}
+use Rattle.configurations.specs.ConfigurationCells.{pastIndex}
+use Rattle.configurations.specs.declared.configuration.Configuration.{Configuration}
 use Rattle.paths.specs.declared.saved.Entry.{Entry}
 
 -- a number of a storage, as one that is used of it

@@ -1,14 +1,14 @@
 // A configuration of the path brought back: from the saved ones, or worked out again from the start along the path's choices.
 use crate::saved;
 use crate::trail;
-use transitions::configuration;
-use transitions::configuration::Configuration;
-use transitions::configuration::Moved;
-use transitions::look;
+use configurations::configuration;
+use configurations::configuration::Configuration;
+use configurations::configuration::Moved;
+use configurations::look;
 use transitions::step;
 ghost use mathlib.Core.Path.{_≡_};
 ghost use mathlib.Core.Bool.{Bool};
-ghost use Rattle.transitions.specs.ContractCells.{stores};
+ghost use Rattle.configurations.specs.ContractCells.{stores};
 ghost use Rattle.paths.specs.ReplayCells.{working, traced, isThere, FollowOut, followStep, TraceOut, followed, broughtBack};
 
 // A node on the way along a path: its configuration, its steps, and which decision comes next.

@@ -1,11 +1,11 @@
 // Saved configurations, so that a walk which goes back need not work a path out again: one behind the other, the last one on top. Of
 // each the used cells of io, ev, et, av and q, and behind these nine numbers: the steps that lead to it, and its struct.
+use configurations::configuration;
+use configurations::configuration::Configuration;
 use environments::environment::Counts;
 use environments::store;
 use sets::cell;
 use sets::counter::Counter;
-use transitions::configuration;
-use transitions::configuration::Configuration;
 ghost use mathlib.Core.Path.{_≡_};
 ghost use Prim.Native.Nat.{_-_};
 ghost use Rattle.paths.specs.SavedCells.{sizeOf, headStart, numberAt, headAt, headStored, entryStored, SaveOut, savedCells, LoadOut, loadedCells};

@@ -1,11 +1,11 @@
 // The path from the start to a node: a cell for each decision, the first one first. It has 1 where the true branch is taken, and 2
 // more while the false branch beside it is untaken.
+use configurations::configuration;
 use sets::cell;
-use transitions::configuration;
 ghost use mathlib.Core.Path.{_≡_};
 ghost use mathlib.Core.Bool.{Bool};
 ghost use lib.ListN.{set};
-ghost use Rattle.transitions.specs.ConfigurationCells.{pastIndex};
+ghost use Rattle.configurations.specs.ConfigurationCells.{pastIndex};
 ghost use Rattle.paths.specs.TrailCells.{choiceCell, takenAt, latestPending, backtracked};
 
 fn choice_cell(taken: bool, pending: bool) -> u16

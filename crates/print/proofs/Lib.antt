@@ -1,6 +1,3 @@
-pub mod SinkLaws
-pub mod DigitLaws
-pub mod TextTurns
 pub mod TreeLaws
 pub mod SeenLaws
 pub mod BindingLaws

@@ -18,7 +18,7 @@ use Rattle.sets.specs.Cells.{cells, cellsAll, restrictionCells, part}
 use Rattle.sets.proofs.CellLaws.{cells-nodes, cellsAll-nodes}
 use Rattle.print.specs.declared.list.Ending.{Ending}
 use Rattle.lines.specs.LineCells.{pairCells, lineCells, linesCells}
-use Rattle.print.specs.LineText.{bindingsText, nonEqualityText, restrictionText, classEnd, lineEnd, lineText, linesText}
+use Rattle.writer.specs.LineText.{bindingsText, nonEqualityText, restrictionText, classEnd, lineEnd, lineText, linesText}
 use Rattle.print.specs.ListingText.{endingWord, firstText, listingText}
 use Rattle.print.proofs.TreeLaws.{leaf-atomic}
 use Rattle.print.proofs.BindingLaws.{instance-fits, bindings-printed}

@@ -12,10 +12,10 @@ use Rattle.semantics.specs.Runner.{Ran, value, ranOver, notWithin}
 use Rattle.listing.specs.Print.{digits, print, printValue}
 use Rattle.listing.specs.Text.{printRan}
 use Rattle.sets.specs.Cells.{cells}
-use Rattle.print.specs.declared.outcome.Outcome.{Outcome}
-use Rattle.print.specs.declared.outcome.Outcome.the-variants.{Value as ValueOf, Over, NotWithin}
-use Rattle.print.specs.TreeText.{treeText}
-use Rattle.print.specs.OutcomeText.{valueText, outcomeText}
+use Rattle.writer.specs.declared.outcome.Outcome.{Outcome}
+use Rattle.writer.specs.declared.outcome.Outcome.the-variants.{Value as ValueOf, Over, NotWithin}
+use Rattle.writer.specs.TreeText.{treeText}
+use Rattle.writer.specs.OutcomeText.{valueText, outcomeText}
 use Rattle.print.proofs.TreeLaws.{tree-printed}
 
 -- a value in cells: how many there are, and what a run's outcome is

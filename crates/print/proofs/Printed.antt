@@ -28,8 +28,8 @@ use Rattle.texts.specs.ReadCells.{zeros}
 use Rattle.runner.proofs.ForwardLaws.{embed-nodes}
 use Rattle.texts.specs.BothCells.{BothAnswer, bothOver}
 use Rattle.texts.proofs.BothRead.{zeros-length, taken, texts-by-reading}
-use Rattle.transitions.proofs.StartLaws.{job-laid}
-use Rattle.transitions.proofs.StartTexts.{accepted-sides, job-here, job-short}
+use Rattle.starts.proofs.StartLaws.{job-laid}
+use Rattle.starts.proofs.StartTexts.{accepted-sides, job-here, job-short}
 use Rattle.lines.specs.LineCells.{linesCells}
 use Rattle.resolve.specs.RunAnswer as runs
 use Rattle.resolve.specs.ListAnswer.{worded, answerOf, cellsAfter, tooShort, listLeft}
@@ -39,12 +39,12 @@ use Rattle.resolve.specs.declared.run.Answer.{Answer as RunAnswer}
 use Rattle.resolve.specs.declared.run.Answer.the-variants.{Value as ValueOf, Over as OverOf, NotWithin as NotWithinOf, Program as RunProgram, Job as RunJob, Short as RunShort}
 use Rattle.print.specs.declared.list.Ending.{Ending}
 use Rattle.print.specs.declared.list.Ending.the-variants.{Whole as WholeWord, Cut as CutWord, Stop21 as Word21, Stop22 as Word22, Stop23 as Word23}
-use Rattle.print.specs.declared.outcome.Outcome.{Outcome}
-use Rattle.print.specs.declared.outcome.Outcome.the-variants.{Value as ValueOut, Over, NotWithin}
-use Rattle.print.specs.TreeText.{symbolText}
+use Rattle.writer.specs.declared.outcome.Outcome.{Outcome}
+use Rattle.writer.specs.declared.outcome.Outcome.the-variants.{Value as ValueOut, Over, NotWithin}
+use Rattle.writer.specs.TreeText.{symbolText}
 use Rattle.print.specs.Names.{foundIn, textNames}
 use Rattle.print.specs.ListingText.{endingWord, listingText}
-use Rattle.print.specs.OutcomeText.{outcomeText}
+use Rattle.writer.specs.OutcomeText.{outcomeText}
 use Rattle.print.specs.RanText.{namedText, ranText}
 use Rattle.print.specs.ListedText.{jobTerms, namedListing, listedText}
 use Rattle.print.proofs.OutcomeLaws.{answerOf as cellsOf, outcomeOf}

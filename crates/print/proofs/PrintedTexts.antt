@@ -17,9 +17,9 @@ use Rattle.lexer.specs.Lexed.{State}
 use Rattle.syntax.proofs.JobRead.{JobStored}
 use Rattle.print.specs.declared.list.Ending.{Ending}
 use Rattle.lines.specs.LineCells.{pairCells, linesCells}
-use Rattle.print.specs.TreeText.{symbolText}
+use Rattle.writer.specs.TreeText.{symbolText}
 use Rattle.print.specs.ListingText.{endingWord, listingText}
-use Rattle.print.specs.OutcomeText.{outcomeText}
+use Rattle.writer.specs.OutcomeText.{outcomeText}
 use Rattle.print.proofs.LineLaws.{listing-printed}
 use Rattle.print.proofs.OutcomeLaws.{answerOf as cellsOf, outcomeOf, outcome-printed}
 use Rattle.print.proofs.NameLaws.{names-printed}

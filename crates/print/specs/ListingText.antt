@@ -5,7 +5,7 @@ use Rattle.semantics.specs.Walk.{stop21, stop22, stop23, Word, whole, cut, stop
 use Rattle.listing.specs.Print.{digits, printWord}
 use Rattle.print.specs.declared.list.Ending.{Ending}
 use Rattle.print.specs.declared.list.Ending.the-variants.{Whole, Cut, Stop21, Stop22, Stop23}
-use Rattle.print.specs.LineText.{linesText}
+use Rattle.writer.specs.LineText.{linesText}
 
 -- the paper's word for each case
 abbrev pub endingWord : Ending → Word

@@ -6,11 +6,11 @@ use lib.ListN.{take, replicate}
 use Rattle.listing.specs.Text.{printRefusal, printRefusalOfNeither}
 use Rattle.resolve.specs.declared.run.Answer.{Answer}
 use Rattle.resolve.specs.declared.run.Answer.the-variants.{Value, Over, NotWithin, Program, Job, Short}
-use Rattle.print.specs.declared.outcome.Outcome.{Outcome}
-use Rattle.print.specs.declared.outcome.Outcome.the-variants.{Value as ValueOf, Over as OverOf, NotWithin as NotWithinOf}
+use Rattle.writer.specs.declared.outcome.Outcome.{Outcome}
+use Rattle.writer.specs.declared.outcome.Outcome.the-variants.{Value as ValueOf, Over as OverOf, NotWithin as NotWithinOf}
 use Rattle.print.specs.Names.{textNames}
-use Rattle.print.specs.TreeText.{symbolText}
-use Rattle.print.specs.OutcomeText.{outcomeText}
+use Rattle.writer.specs.TreeText.{symbolText}
+use Rattle.writer.specs.OutcomeText.{outcomeText}
 
 unfoldable pub namedText : List ℕ → List ℕ → List ℕ → Outcome → List ℕ
 namedText program job cells outcome =

@@ -1,21 +1,21 @@
 // The text of a listing, from the two texts and from what `resolve::list` answered and left.
-use crate::line::put_lines;
-use crate::line::put_numbers;
-use crate::parts::front;
-use crate::refusal::print_refusal;
-use crate::sink;
-use crate::sink::Place;
 use resolve::list::Answer;
-use sets::intersection;
+use starts::start::Laid;
+use starts::start::lay_job;
 use texts::both::Both;
 use texts::both::read_both;
-use transitions::start::Laid;
-use transitions::start::lay_job;
+use unification::intersection;
+use writer::line::put_lines;
+use writer::line::put_numbers;
+use writer::parts::front;
+use writer::refusal::print_refusal;
+use writer::sink;
+use writer::sink::Place;
 ghost use mathlib.Core.Path.{_≡_};
 ghost use Prim.Native.Nat.{_*_, _-_, min};
 ghost use lib.ListN.{length, take};
-ghost use Rattle.print.specs.Sink.{Wrote, windowed};
-ghost use Rattle.print.specs.TreeText.{symbolText};
+ghost use Rattle.writer.specs.Sink.{Wrote, windowed};
+ghost use Rattle.writer.specs.TreeText.{symbolText};
 ghost use Rattle.print.specs.ListingText.{endingText, firstText, listingText};
 ghost use Rattle.print.specs.ListedText.{laidTerms, jobTerms, namedListing, listedText};
 

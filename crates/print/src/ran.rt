@@ -1,13 +1,13 @@
 // The line that a run prints, from the two texts and from what `resolve::run` answered and left.
 use crate::names::read_names;
-use crate::outcome::Outcome;
-use crate::outcome::print_outcome;
-use crate::refusal::print_refusal;
 use resolve::run::Answer;
+use writer::outcome::Outcome;
+use writer::outcome::print_outcome;
+use writer::refusal::print_refusal;
 ghost use mathlib.Core.Path.{_≡_};
 ghost use Prim.Native.Nat.{_-_, min};
 ghost use lib.ListN.{length};
-ghost use Rattle.print.specs.Sink.{windowed};
+ghost use Rattle.writer.specs.Sink.{windowed};
 ghost use Rattle.print.specs.RanText.{namedText, ranText};
 
 // An outcome, the symbols by their names in the texts.

@@ -1,3 +1,4 @@
+pub mod EngineStart
 pub mod ProgramHeld
 pub mod RunMeaning
 pub mod ListMeaning

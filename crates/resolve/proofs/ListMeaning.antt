@@ -14,7 +14,7 @@ use Rattle.language.specs.JobCheck.{lister}
 use Rattle.language.specs.Reading.{accepted, rejected, reading}
 use Rattle.language.proofs.Acceptance.{accepted-passed}
 use Rattle.lexer.specs.Lexed.{State}
-use Rattle.syntax.specs.StoredAt.{keyAt}
+use Rattle.checker.specs.StoredAt.{keyAt}
 use Rattle.syntax.specs.PartEnds.{partEnds}
 use Rattle.syntax.specs.declared.job_ends.JobEnds.{JobEnds}
 use Rattle.syntax.specs.declared.numerals.Numerals.{Numerals}
@@ -31,19 +31,19 @@ use Rattle.semantics.proofs.Backtracking.{back-findings}
 use Rattle.semantics.proofs.Reaching.{here}
 use Rattle.semantics.proofs.Soundness.{accepted-sound}
 use Rattle.semantics.proofs.MainCall.{accepted-main, accepted-defines}
-use Rattle.transitions.specs.ContractCells.{stores}
-use Rattle.transitions.specs.StartCells.{StartAnswer, started, configured}
-use Rattle.transitions.specs.declared.start.Begun.{Begun}
-use Rattle.transitions.specs.declared.start.Started.{Started}
-use Rattle.transitions.specs.declared.start.Started.the-variants.{On, None}
+use Rattle.configurations.specs.ContractCells.{stores}
+use Rattle.starts.specs.StartCells.{StartAnswer, started, configured}
+use Rattle.starts.specs.declared.start.Begun.{Begun}
+use Rattle.starts.specs.declared.start.Started.{Started}
+use Rattle.starts.specs.declared.start.Started.the-variants.{On, None}
 use Rattle.transitions.proofs.EngineLaws.{HoldsConfiguration}
-use Rattle.transitions.proofs.EngineStart.{start-holds}
-use Rattle.transitions.proofs.StartLaws.{StartsAs}
-use Rattle.transitions.proofs.StartLengths.{start-kept}
-use Rattle.transitions.proofs.StartTexts.{accepted-start}
+use Rattle.resolve.proofs.EngineStart.{start-holds}
+use Rattle.starts.proofs.StartLaws.{StartsAs}
+use Rattle.starts.proofs.StartLengths.{start-kept}
+use Rattle.starts.proofs.StartTexts.{accepted-start}
 use Rattle.lines.specs.LineCells.{linesCells, answerRoom}
 use Rattle.expansion.specs.PlanCells.{walked, nothingFound}
-use Rattle.walker.specs.AheadCells.{WalkStores}
+use Rattle.backtracking.specs.AheadCells.{WalkStores}
 use Rattle.walker.specs.WalkCells.{WalkedAnswer, walkedAnswer, WalkedOut, walkedStart}
 use Rattle.walker.specs.JobCells.{firstStores, walkBegun, onStarted, walkJob}
 use Rattle.expansion.specs.declared.found.Ending.the-variants.{Over}

@@ -7,17 +7,17 @@ use Rattle.language.specs.Program.{Param, find}
 use Rattle.language.specs.Tokens.{Token}
 use Rattle.language.specs.Source.{SDef, SProg, functions, defs, prog}
 use Rattle.lexer.specs.Lexed.{State}
-use Rattle.syntax.specs.Stored as stored
+use Rattle.grammar.specs.Stored as stored
 use Rattle.syntax.specs.Standing.{WordAt, DefAt, defineAt}
 use Rattle.syntax.specs.Placed.{ParamsIn}
 use Rattle.syntax.specs.Placed as placed
 use Rattle.syntax.proofs.StoredCheck.{held-stands}
 use Rattle.syntax.proofs.ProgramRead.{ProgramStored}
 use Rattle.texts.proofs.BothRead.{zeros-length, endsOf, tableOf, headsOf}
-use Rattle.transitions.proofs.PlaceLaws.{ProgramPlaced}
+use Rattle.configurations.proofs.PlaceLaws.{ProgramPlaced}
 use Rattle.transitions.proofs.CallLaws.{definition-at}
 use Rattle.transitions.proofs.EngineLaws.{DefinitionsIn}
-use Rattle.transitions.proofs.EngineStart.{program-placed}
+use Rattle.resolve.proofs.EngineStart.{program-placed}
 use Rattle.transitions.proofs.DefinitionCells.{definitions-in}
 
 abbrev pub tokenOf : State → ℕ → Token

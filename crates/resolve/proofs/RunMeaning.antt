@@ -15,10 +15,10 @@ use Rattle.language.specs.Source.{SProg, SJob, functions, defs, prog, class}
 use Rattle.language.specs.JobCheck.{runner}
 use Rattle.language.specs.Reading.{accepted, rejected, reading}
 use Rattle.language.proofs.Acceptance.{accepted-passed}
-use Rattle.syntax.specs.StoredAt.{keyAt}
+use Rattle.checker.specs.StoredAt.{keyAt}
 use Rattle.lexer.specs.Lexed.{State}
 use Rattle.syntax.specs.PartEnds.{partEnds}
-use Rattle.syntax.specs.declared.check.Defs.{Defs}
+use Rattle.checker.specs.declared.check.Defs.{Defs}
 use Rattle.syntax.specs.declared.job_ends.JobEnds.{JobEnds}
 use Rattle.syntax.specs.declared.numerals.Numerals.{Numerals}
 use Rattle.texts.specs.ReadCells.{zeros}
@@ -30,12 +30,12 @@ use Rattle.semantics.specs.Runner.{Ran, value, ranOver, notWithin, nodesValue, 
 use Rattle.semantics.specs.Answer as meaning
 use Rattle.semantics.specs.Answer.{answered, inputs, ran, answerOf as meaningOf, run}
 use Rattle.semantics.proofs.Environments.{ground-fits}
-use Rattle.transitions.specs.ContractCells.{Stores, stores}
-use Rattle.transitions.specs.ConfigurationCells.{sizedOf}
-use Rattle.transitions.specs.StartCells.{RunAnswer, startedRun, configured}
-use Rattle.transitions.specs.declared.configuration.Configuration.{Configuration}
-use Rattle.transitions.proofs.RunStart.{RunHolds, accepted-run}
-use Rattle.transitions.proofs.StartLengths.{run-kept}
+use Rattle.configurations.specs.ContractCells.{Stores, stores}
+use Rattle.configurations.specs.ConfigurationCells.{sizedOf}
+use Rattle.starts.specs.StartCells.{RunAnswer, startedRun, configured}
+use Rattle.configurations.specs.declared.configuration.Configuration.{Configuration}
+use Rattle.starts.proofs.RunStart.{RunHolds, accepted-run}
+use Rattle.starts.proofs.StartLengths.{run-kept}
 use Rattle.resolve.specs.RunAnswer.{RunLeft, answerOf, cellsAfter}
 use Rattle.runner.specs.ForwardCells.{RanAnswer, RanOut, ranOn}
 use Rattle.runner.specs.declared.forward.Ran.{Ran as RanCells}

@@ -25,17 +25,17 @@ use Rattle.semantics.specs.Runner.{Ran, value, ranOver, notWithin, nodesValue, 
 use Rattle.semantics.proofs.Forward.{apply-embed}
 use Rattle.semantics.proofs.Scopes.{WellScoped}
 use Rattle.environments.specs.ValueCells.{keyCell}
-use Rattle.transitions.specs.ContractCells.{Stores}
-use Rattle.transitions.specs.LookCells.{lookAnswer, lookTerm}
+use Rattle.configurations.specs.ContractCells.{Stores}
+use Rattle.configurations.specs.LookCells.{lookAnswer, lookTerm}
 use Rattle.runner.specs.OutputCells.{endOutput}
 use Rattle.runner.specs.ForwardCells.{isEnd, nextOf, forwarded, outputRoom, finished, afterFinish, afterMove, RanAnswer, ranAnswer, TurnAnswer, went, stopped, turned, afterTurn, ranFrom}
 use Rattle.transitions.specs.StepCells.{cellsOf}
-use Rattle.transitions.specs.declared.look.Look.{Look}
-use Rattle.transitions.specs.declared.configuration.Configuration.{Configuration}
+use Rattle.configurations.specs.declared.look.Look.{Look}
+use Rattle.configurations.specs.declared.configuration.Configuration.{Configuration}
 use Rattle.runner.specs.declared.forward.Ran.the-variants.{Value as RanValue, Over as RanOver, NotWithin}
 use Rattle.environments.proofs.ContractionEnvironment.{map-length}
-use Rattle.transitions.proofs.PlaceLaws.{ProgramPlaced, past-small, key-is}
-use Rattle.runner.proofs.OutputLaws.{Gives}
+use Rattle.configurations.proofs.PlaceLaws.{ProgramPlaced, past-small, key-is}
+use Rattle.configurations.proofs.OutputLaws.{Gives}
 use Rattle.runner.proofs.RunLaws.{RunHeld, runNodes, RunRoom, Lands}
 
 -- values have as many nodes as their expressions

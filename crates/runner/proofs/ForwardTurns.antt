@@ -4,16 +4,16 @@ use mathlib.Core.Path.{_≡_, refl, subst}
 use mathlib.Core.Bool.{Bool, true, false}
 use mathlib.Core.List.{List}
 use native.Mathlib.Omega.{arith}
-use Rattle.transitions.specs.ContractCells.{Stores, stores, MovedOut}
+use Rattle.configurations.specs.ContractCells.{Stores, stores, MovedOut}
 use Rattle.transitions.specs.StepCells.{isCall, SameStores, SteppedAnswer, StepOut, cellsOf, stepped}
 use Rattle.runner.specs.ForwardCells.{isHeld, forwarded, turnOf, GoneOut, RanAnswer, ranAnswer, TurnAnswer, went, stopped, TurnOut, afterMove, turnedBy, turned, afterTurn, ranFrom}
 use Rattle.transitions.proofs.StepTurns.{same-stores}
-use Rattle.transitions.specs.LookCells.{LookOut, lookTerm}
+use Rattle.configurations.specs.LookCells.{LookOut, lookTerm}
 use Rattle.transitions.specs.BranchCells.{trueTaken, falseTaken}
-use Rattle.transitions.specs.declared.look.Look.{Look}
-use Rattle.transitions.specs.declared.configuration.Configuration.{Configuration}
-use Rattle.transitions.specs.declared.configuration.Moved.{Moved}
-use Rattle.transitions.specs.declared.configuration.Moved.the-variants.{On, Contradiction, Over}
+use Rattle.configurations.specs.declared.look.Look.{Look}
+use Rattle.configurations.specs.declared.configuration.Configuration.{Configuration}
+use Rattle.configurations.specs.declared.configuration.Moved.{Moved}
+use Rattle.configurations.specs.declared.configuration.Moved.the-variants.{On, Contradiction, Over}
 use Rattle.runner.specs.declared.forward.Ran.{Ran}
 use Rattle.runner.specs.declared.forward.Ran.the-variants.{NotWithin}
 use Rattle.runner.specs.declared.forward.Turn.{Turn}

@@ -1,5 +1,5 @@
-pub mod ForwardTurns
 pub mod OutputLaws
+pub mod ForwardTurns
 pub mod RunLaws
 pub mod ForwardLaws
 pub mod StepLaws

@@ -23,24 +23,21 @@ use Rattle.semantics.specs.Configuration.{ExpEnv, substOfEnv, nodesValues}
 use Rattle.environments.specs.ValueCells.{CellEnv, environment}
 use Rattle.environments.specs.EnvironmentCells.{counted}
 use Rattle.environments.specs.ArgumentCells.{argumentEnd}
-use Rattle.transitions.specs.ConfigurationCells.{pastIndex, rightOf}
+use Rattle.configurations.specs.ConfigurationCells.{pastIndex, rightOf}
 use Rattle.transitions.specs.TransitionCells.{boundName}
 use Rattle.environments.specs.LateCells.{endEnv, evaluatedLate, LateAnswer, lateArguments}
-use Rattle.runner.specs.OutputCells.{plainOutput, atomOutput, pairOutput, headAt, delayedParts, largeOutput, calledOutput}
+use Rattle.runner.specs.OutputCells.{atomOutput, pairOutput, headAt, delayedParts, largeOutput, calledOutput}
+use Rattle.configurations.specs.OutputCells.{plainOutput}
+use Rattle.configurations.proofs.OutputLaws.{Gives, plain-gives}
 use Rattle.environments.specs.declared.environment.Counts.{Counts}
 use Rattle.environments.proofs.TableLaws.{entryCells, entry-stored}
 use Rattle.environments.proofs.CellEnvironments.{updateA-environment}
 use Rattle.transitions.proofs.TransitionLaws.{names-bound}
 use Rattle.transitions.proofs.CallLaws.{bound-names}
 use Rattle.environments.proofs.ValueLaws.{Holds, value-cells, evaluate-value, evaluate-not}
-use Rattle.transitions.proofs.PlaceLaws.{exp-stands, exps-stand, params-stand, ProgramPlaced, past-small, exp-end, exp-below}
+use Rattle.configurations.proofs.PlaceLaws.{exp-stands, exps-stand, params-stand, ProgramPlaced, past-small, exp-end, exp-below}
 use Rattle.environments.proofs.LateLaws.{expressionCells, Delays, lateRun, late-front, late-not, Ends, late-cells}
 use Rattle.environments.proofs.DelayLaws.{Delayed, delayed-holds}
-
--- v stands in the answer from its beginning on, or it has more than `limit` nodes.
-pub record Gives (v : Exp) (limit : ℕ) (d : List ℕ) (w : FillAnswer) : Type 0 where
-  pub on : nodes v ≤ limit → w ≡ fillAnswer (Done (nodes v)) (cells v ++ drop (nodes v) d)
-  pub over : limit < nodes v → w .answer ≡ Over
 
 -- what a name is bound to after an update
 pub lookup-update : {A : Type 0} (d : A) (x y : ℕ) (v : A) (bs : List (ℕ × A)) → lookup d x (update y v bs) ≡ cond (eqb y x) v (lookup d x bs)
@@ -66,23 +63,6 @@ module _ (tok : ℕ → Token) (n : ℕ) (fs marks nums ends : List ℕ) (placed
     {from to : ℕ} {c : Exp} (x : ExpIn tok n ofProgram from c to) (limit : ℕ) (d : List ℕ) (long : limit ≤ length d) where
   abbrev valueIn : ExpEnv → Exp
   valueIn τ = apply (substOfEnv τ) c
-
-  -- in an environment that is stored
-  pub plain-gives : {e : CellEnv} {τ : ExpEnv} → Holds e τ → Gives (valueIn τ) limit d (plainOutput marks nums ends e from limit d)
-  plain-gives {e} {τ} h = record { on = on; over = over }
-    where
-      on : nodes (valueIn τ) ≤ limit → plainOutput marks nums ends e from limit d ≡ fillAnswer (Done (nodes (valueIn τ))) (cells (valueIn τ) ++ drop (nodes (valueIn τ)) d)
-      on l =
-          let u = exp-stands x in
-          let m : 0 + length (cells (valueIn τ)) ≤ limit = omega (arith, cells-nodes (valueIn τ)) in
-          let z : 0 + nodes (valueIn τ) ≡ nodes (valueIn τ) = omega arith in
-          rw (exp-end tok n fs marks nums ends placed x) (rw (u .2, cells-nodes (valueIn τ), z) at (evaluate-value tok n marks nums (placed .stored .tokens) e τ h (u .3) limit 0 [] d refl long (rw (u .2) m)))
-
-      over : limit < nodes (valueIn τ) → plainOutput marks nums ends e from limit d .answer ≡ Over
-      over l =
-          let u = exp-stands x in
-          let m : limit < 0 + length (cells (valueIn τ)) = omega (arith, cells-nodes (valueIn τ)) in
-          rw (exp-end tok n fs marks nums ends placed x) (evaluate-not tok n marks nums (placed .stored .tokens) e τ h (u .3) limit 0 [] d refl long (omega arith) (rw (u .2) m))
 
   -- in one that is not
   module _ (e : CellEnv) (late : List ℕ) (m : ℕ) (ds : List (ℕ × Exp)) (delays : Delays marks nums ends e late m ds) (av2 : List ℕ) (b : Counts) (ρ τ : ExpEnv) (kept : Holds (endEnv av2 b e) ρ) (to-end : Ends ds ρ τ) where
@@ -124,7 +104,7 @@ module _ (tok : ℕ → Token) (n : ℕ) (fs marks nums ends : List ℕ) (placed
     unfolding atomOutput boundName
     atom-gives y room =
         let r = updateA-environment h (getD nums (pastIndex j 2) 0) y room in
-        rw (r .0) (plain-gives (r .1))
+        rw (r .0) (plain-gives tok n fs marks nums ends placed x limit d long (r .1))
 
     -- behind one on a pair whose parts stand in val
     pub pair-gives : (ev2 et2 : List ℕ) (a b : Exp) (val : List ℕ) (mid end : ℕ) → part 0 mid val ≡ cells a → part mid end val ≡ cells b →
@@ -134,7 +114,7 @@ module _ (tok : ℕ → Token) (n : ℕ) (fs marks nums ends : List ℕ) (placed
     unfolding pairOutput
     pair-gives ev2 et2 a b val mid end first second l l2 w w2 small fits =
         let r = names-bound h nums j ev2 et2 a b val mid end first second 8192 (omega arith) l l2 w w2 small fits in
-        rw (r .0) (plain-gives (r .1))
+        rw (r .0) (plain-gives tok n fs marks nums ends placed x limit d long (r .1))
 
     -- the value of an expression
     value-there : {i k : ℕ} {b : Exp} → ExpIn tok n ofProgram i b k → expressionCells marks nums ends before i ≡ cells (apply (substOfEnv σ) b)

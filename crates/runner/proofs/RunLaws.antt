@@ -24,28 +24,28 @@ use Rattle.environments.specs.Storing.{stored, storedEntry}
 use Rattle.environments.specs.EnvironmentCells.{counted, updatedA, updatedAt}
 use Rattle.environments.specs.ValueCells.{environment}
 use Rattle.environments.specs.ArgumentCells.{ArgumentAnswer, boundArguments}
-use Rattle.transitions.specs.ConfigurationCells.{withCounts, placedAt, nodesOf, sizedOf, pastIndex, rightOf, trueOf, falseOf}
-use Rattle.transitions.specs.ContractCells.{Stores, stores, contracted}
+use Rattle.configurations.specs.ConfigurationCells.{withCounts, placedAt, nodesOf, sizedOf, pastIndex, rightOf, trueOf, falseOf}
+use Rattle.configurations.specs.ContractCells.{Stores, stores, contracted}
 use Rattle.transitions.specs.TransitionCells.{advanced, pairTaken, boundName, atomTaken}
 use Rattle.transitions.specs.BranchCells.{trueTaken, falseTaken}
 use Rattle.transitions.specs.CallCells.{headOf, bodyOf, calleeOf, afterArguments, entered, calledCells}
 use Rattle.transitions.specs.StepCells.{SteppedAnswer, behindCall, cellsOf, stepped}
 use Rattle.runner.specs.ForwardCells.{forwarded}
-use Rattle.transitions.specs.declared.look.Look.the-variants.{Call, Same, Atom, Pair, Large}
+use Rattle.configurations.specs.declared.look.Look.the-variants.{Call, Same, Atom, Pair, Large}
 use Rattle.environments.specs.declared.environment.Bound.the-variants.{Over as BoundOver}
-use Rattle.transitions.specs.declared.configuration.Configuration.{Configuration}
-use Rattle.transitions.specs.declared.configuration.Moved.the-variants.{On, Over}
+use Rattle.configurations.specs.declared.configuration.Configuration.{Configuration}
+use Rattle.configurations.specs.declared.configuration.Moved.the-variants.{On, Over}
 use Rattle.environments.proofs.StoreLengths.{entry-length}
 use Rattle.environments.proofs.ArgumentLengths.{arguments-kept}
 use Rattle.environments.proofs.EnvironmentLaws.{valueCells, names}
 use Rattle.environments.proofs.CellEnvironments.{values-nodes, updateA-environment}
 use Rattle.environments.proofs.ContractionEnvironment.{map-length}
-use Rattle.transitions.proofs.CopyLaws.{copied-table, copied-values, names-nodes}
+use Rattle.configurations.proofs.CopyLaws.{copied-table, copied-values, names-nodes}
 use Rattle.environments.proofs.ValueLaws.{Holds}
 use Rattle.transitions.proofs.TransitionLaws.{names-bound, names-over, names-kept}
 use Rattle.environments.proofs.ArgumentLaws.{Argued, arguments-hold, arguments-not}
 use Rattle.transitions.proofs.CallLaws.{bound-names, body-is}
-use Rattle.transitions.proofs.PlaceLaws.{exps-stand, params-stand, ProgramPlaced, past-small}
+use Rattle.configurations.proofs.PlaceLaws.{exps-stand, params-stand, ProgramPlaced, past-small}
 use Rattle.transitions.proofs.StepLengths.{name-kept}
 
 -- The storages hold the environment ρ of a run whose inputs have m nodes.

@@ -24,13 +24,13 @@ use Rattle.semantics.specs.Embedding.{embed, embedEnv}
 use Rattle.semantics.specs.Runner.{ranOver, nodesInputs, nodesNext, runner}
 use Rattle.semantics.proofs.Environments.{FitsInputs}
 use Rattle.semantics.proofs.Evaluation.{start-scoped}
-use Rattle.transitions.specs.ContractCells.{Stores}
+use Rattle.configurations.specs.ContractCells.{Stores}
 use Rattle.runner.specs.ForwardCells.{ranOn}
-use Rattle.transitions.specs.declared.configuration.Configuration.{Configuration}
-use Rattle.transitions.proofs.PlaceLaws.{ProgramPlaced}
+use Rattle.configurations.specs.declared.configuration.Configuration.{Configuration}
+use Rattle.configurations.proofs.PlaceLaws.{ProgramPlaced}
 use Rattle.transitions.proofs.EngineLaws.{DefinitionsIn}
 use Rattle.semantics.proofs.MainCall.{start-rebound}
-use Rattle.transitions.proofs.RunStart.{bound-embed}
+use Rattle.starts.proofs.RunStart.{bound-embed}
 use Rattle.runner.proofs.RunLaws.{RunHeld, RunRoom}
 use Rattle.runner.proofs.ForwardLaws.{embed-nodes, starts, Running, RanMeans, from-over, loop-means}
 use Rattle.runner.proofs.StepLaws.{arguments-embed, turn-means}

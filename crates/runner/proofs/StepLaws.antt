@@ -1,10 +1,10 @@
 -- Each turn of a run in cells is a step of evaluation: by what its term is.
-use Prim.Native.Nat.{ℕ, _+_, _-_, _*_, _/_, _%_, _≤_, _<_, min}
+use Prim.Native.Nat.{ℕ, _+_, _*_, _≤_, _<_}
 use mathlib.Core.Path.{_≡_, refl, ap, _∙_, subst, sym as inv}
 use mathlib.Core.Bool.{Bool, true, false, cond, not, false≢true}
 use mathlib.Core.List.{List, [], _∷_}
 use native.Mathlib.Omega.{arith}
-use lib.Dec.{eqb, leb, ltb}
+use lib.Dec.{eqb, ltb}
 use lib.ListN.{length, getD}
 use borrow.Author.Tests.{eqb-true, eqb-false, eq-eqb, ne-eqb, ltb-true}
 use Rattle.expressions.specs.Expression.{Value, atom, cons, AtomicExp, sym, avar, Exp, atm, evar, pair, nodes}
@@ -12,8 +12,6 @@ use Rattle.expressions.specs.Substitution.{ground, groundAtomic, apply, applyAt
 use Rattle.expressions.proofs.Tests.{and-both}
 use Rattle.sets.specs.Cells.{atomicCode, cells, part}
 use Rattle.sets.specs.Fill.{FillAnswer}
-use Rattle.sets.specs.declared.fill.Filled.{Filled}
-use Rattle.sets.specs.declared.fill.Filled.the-variants.{Done, Over as FilledOver}
 use Rattle.language.specs.Program.{eqa, consp, Term, call, conditional, result, Param, pe, pa, Prog, find, atomOf}
 use Rattle.language.specs.WellFormed.{fits, wellFormedTerm, wellFormedDefs, wellFormed}
 use Rattle.language.specs.Scope.{withA, pairScope, inScope}
@@ -31,33 +29,29 @@ use Rattle.semantics.proofs.Forward.{apply-embed}
 use Rattle.semantics.proofs.Grounding.{lookup-map, update-map}
 use Rattle.semantics.proofs.Scopes.{WellScoped, scoped-call}
 use Rattle.semantics.proofs.Evaluation.{Goes, step-goes, scoped-step}
-use Rattle.environments.specs.Storing.{stored}
-use Rattle.environments.specs.EnvironmentCells.{findCells, startAt, endAt}
-use Rattle.environments.specs.ValueCells.{CellEnv, keyCell, kindCell, evaluated}
-use Rattle.environments.specs.ArgumentCells.{argumentEnd}
-use Rattle.transitions.specs.ConfigurationCells.{pastIndex, rightOf, trueOf, falseOf}
-use Rattle.transitions.specs.ContractCells.{Stores}
+use Rattle.configurations.specs.ConfigurationCells.{pastIndex, rightOf, trueOf, falseOf}
+use Rattle.configurations.specs.ContractCells.{Stores}
 use Rattle.transitions.specs.CallCells.{headOf}
-use Rattle.transitions.specs.LookCells.{LookAnswer, lookAnswer, afterParts, lookParts, lookCell, lookName, afterTail, afterHead, lookCons, lookTested, lookCondition, lookTerm}
+use Rattle.configurations.specs.LookCells.{LookAnswer, lookAnswer, lookTerm}
 use Rattle.runner.specs.OutputCells.{callOutput, endOutput}
 use Rattle.runner.specs.ForwardCells.{nextOf, forwarded, outputRoom, turned}
 use Rattle.transitions.specs.StepCells.{cellsOf}
-use Rattle.transitions.specs.declared.look.Look.{Look}
-use Rattle.transitions.specs.declared.look.Look.the-variants.{Call, Same, Atom, Pair, Variable, Large}
-use Rattle.transitions.specs.declared.configuration.Configuration.{Configuration}
-use Rattle.environments.proofs.StoreLengths.{stored-length}
+use Rattle.configurations.specs.declared.look.Look.{Look}
+use Rattle.configurations.specs.declared.look.Look.the-variants.{Call, Same, Atom, Pair, Large}
+use Rattle.configurations.specs.declared.configuration.Configuration.{Configuration}
 use Rattle.transitions.proofs.CallLaws.{definition-at, head-is, body-is}
-use Rattle.transitions.proofs.PlaceLaws.{ProgramPlaced, past-small, num-is, eqa-places, consp-places}
-use Rattle.transitions.proofs.LookLaws.{Tested, look-start, look-call, look-eqa, look-consp}
-use Rattle.transitions.proofs.LookLaws as look
+use Rattle.configurations.proofs.PlaceLaws.{ProgramPlaced, past-small, num-is, eqa-places, consp-places}
+use Rattle.configurations.proofs.LookLaws.{Tested, look-start, look-call, look-eqa, look-consp}
+use Rattle.configurations.proofs.LookLaws as look
 use Rattle.transitions.proofs.BranchLaws.{both-have}
-use Rattle.transitions.proofs.CopyLaws.{names-nodes}
+use Rattle.configurations.proofs.CopyLaws.{names-nodes}
 use Rattle.transitions.proofs.TransitionLaws.{update-nodes}
 use Rattle.transitions.proofs.EngineLaws.{term-later, If, if-parts, call-parts, DefinitionsIn}
-use Rattle.runner.proofs.OutputLaws.{Gives, plain-gives, atom-gives, pair-gives, large-gives, call-gives}
+use Rattle.runner.proofs.OutputLaws.{atom-gives, pair-gives, large-gives, call-gives}
+use Rattle.configurations.proofs.OutputLaws.{Gives, plain-gives}
 use Rattle.runner.proofs.RunLaws.{runNodes, held-cells, held-atoms, held-names, Lands, same-lands, other-lands, atom-lands, pair-lands, large-lands, start-lands, call-lands}
-use Rattle.environments.proofs.ArgumentLengths.{evaluated-kept}
 use Rattle.runner.proofs.ForwardLaws.{run-size, Standing, starts, stands, Running, TurnMeans, landed-end, landed-term}
+use Rattle.configurations.proofs.LookLengths.{look-kept}
 
 -- values in an environment, as expressions
 module _ (σ : ValueEnv) where
@@ -81,69 +75,6 @@ module _ (σ : ValueEnv) where
 
   pub atom-embed : (x z : ℕ) → updateA x (sym z) (embedEnv σ) ≡ embedEnv (updateA x z σ)
   atom-embed x z = λ i. record { evars = mapValues embed (σ .evars); avars = inv (update-map sym x z (σ .avars)) i }
-
--- what is looked at keeps the storage's length
-parts-kept : (ev : List ℕ) (from to : ℕ) (val : List ℕ) → length (lookParts ev from to val .val) ≡ length val
-unfolding lookParts
-parts-kept ev from to val = let w = stored 4096 (part (pastIndex from 1) to ev) 0 val in pick (w .cells) (w .answer) ∙ stored-length 4096 (part (pastIndex from 1) to ev) 0 val
-  where
-    pick : (v : List ℕ) (a : Filled) → length (afterParts v a .val) ≡ length v
-    pick v (Done e) = refl
-    pick v FilledOver = refl
-
-name-looked : (ev et : List ℕ) (es x : ℕ) (val : List ℕ) → length (lookName ev et es x val .val) ≡ length val
-unfolding lookName
-name-looked ev et es x val = pick (leb (min es (length et / 2)) (findCells et es x)) (startAt et (findCells et es x)) (endAt et (findCells et es x))
-  where
-    inner : (from to : ℕ) (a b : Bool) (code : ℕ) → length (cond a (lookParts ev from to val) (cond b (lookAnswer (Variable code) val) (lookAnswer (Atom code) val)) .val) ≡ length val
-    inner from to true b code = parts-kept ev from to val
-    inner from to false true code = refl
-    inner from to false false code = refl
-
-    pick : (a : Bool) (from to : ℕ) → length (cond a (lookAnswer (Atom 1) val) (lookCell ev from to val (getD ev from 0)) .val) ≡ length val
-    pick true from to = refl
-    pick false from to = inner from to (eqb (getD ev from 0) 4) (eqb (getD ev from 0 % 4) 2) (getD ev from 0)
-
-module _ (marks nums ends : List ℕ) (e : CellEnv) where
-  cons-kept : (i : ℕ) (val : List ℕ) → length (lookCons marks nums ends e i val .val) ≡ length val
-  unfolding lookCons
-  cons-kept i val =
-      let tail = argumentEnd marks ends (pastIndex i 2) in
-      let w = evaluated marks nums e 4096 (pastIndex i 2) tail 0 val in
-      first (w .cells) (w .answer) ∙ evaluated-kept marks nums e 4096 (tail - pastIndex i 2) (pastIndex i 2) 0 val
-    where
-      second : (mid : ℕ) (v : List ℕ) (a : Filled) → length (afterTail mid v a .val) ≡ length v
-      second mid v (Done k) = refl
-      second mid v FilledOver = refl
-
-      first : (v : List ℕ) (a : Filled) → let tail = argumentEnd marks ends (pastIndex i 2) in
-          length (afterHead (λ mid v. let w = evaluated marks nums e 4096 tail (argumentEnd marks ends tail) mid v in afterTail mid (w .cells) (w .answer)) v a .val) ≡ length v
-      first v (Done mid) =
-          let tail = argumentEnd marks ends (pastIndex i 2) in
-          let w = evaluated marks nums e 4096 tail (argumentEnd marks ends tail) mid v in
-          second mid (w .cells) (w .answer) ∙ evaluated-kept marks nums e 4096 (argumentEnd marks ends tail - tail) tail mid v
-      first v FilledOver = refl
-
-  pub tested-kept : (i : ℕ) (val : List ℕ) → length (lookTested marks nums ends e i val .val) ≡ length val
-  unfolding lookTested
-  tested-kept i val = pick (eqb (keyCell marks i) 1) (eqb (kindCell marks i) 1) _
-    where
-      pick : (a b : Bool) (x : ℕ) → length (cond a (lookCons marks nums ends e i val) (cond b (lookName (e .ev) (e .et) (e .counts .es) (getD nums i 0) val) (lookAnswer (Atom x) val)) .val) ≡ length val
-      pick true b x = cons-kept i val
-      pick false true x = name-looked (e .ev) (e .et) (e .counts .es) (getD nums i 0) val
-      pick false false x = refl
-
-  pub look-kept : (place : ℕ) (val : List ℕ) → length (lookTerm marks nums ends e place val .val) ≡ length val
-  unfolding lookTerm lookCondition
-  look-kept place val = pick (eqb place 0) (eqb (keyCell marks place) 1) (eqb (keyCell marks (pastIndex place 1)) 6) (eqb (keyCell marks (pastIndex place 1)) 7) (eqb (keyCell marks (pastIndex place 3)) 9) _ _
-    where
-      pick : (a b f g h : Bool) (x y : Look) → length (cond a (lookAnswer Call val) (cond b (cond f (lookAnswer Call val) (cond g (cond h (lookAnswer x val) (lookTested marks nums ends e (pastIndex place 4) val)) (lookAnswer y val))) (lookAnswer y val)) .val) ≡ length val
-      pick true b f g h x y = refl
-      pick false false f g h x y = refl
-      pick false true true g h x y = refl
-      pick false true false false h x y = refl
-      pick false true false true true x y = refl
-      pick false true false true false x y = tested-kept (pastIndex place 4) val
 
 -- the same output in an equal environment
 env-gives : {τ υ : ExpEnv} → τ ≡ υ → (e : Exp) (limit : ℕ) (d : List ℕ) (w : FillAnswer) → Gives (apply (substOfEnv τ) e) limit d w → Gives (apply (substOfEnv υ) e) limit d w

@@ -7,17 +7,17 @@ use lib.Dec.{eqb}
 use Rattle.sets.specs.declared.fill.Filled.{Filled}
 use Rattle.sets.specs.declared.fill.Filled.the-variants.{Done, Over as FilledOver}
 use Rattle.environments.specs.ValueCells.{CellEnv, environment, keyCell}
-use Rattle.transitions.specs.ConfigurationCells.{pastIndex, trueOf, falseOf}
-use Rattle.transitions.specs.ContractCells.{Stores, stores, MovedAnswer}
+use Rattle.configurations.specs.ConfigurationCells.{pastIndex, trueOf, falseOf}
+use Rattle.configurations.specs.ContractCells.{Stores, stores, MovedAnswer}
 use Rattle.transitions.specs.CallCells.{CallAnswer, calleeOf, bodyOf, calledCells}
-use Rattle.transitions.specs.LookCells.{lookTerm}
+use Rattle.configurations.specs.LookCells.{lookTerm}
 use Rattle.transitions.specs.BranchCells.{trueTaken, falseTaken}
 use Rattle.runner.specs.OutputCells.{endOutput}
-use Rattle.transitions.specs.declared.look.Look.{Look}
-use Rattle.transitions.specs.declared.look.Look.the-variants.{Result, Call, Same, Atom, Pair, Variable, Large}
-use Rattle.transitions.specs.declared.configuration.Configuration.{Configuration}
-use Rattle.transitions.specs.declared.configuration.Moved.{Moved}
-use Rattle.transitions.specs.declared.configuration.Moved.the-variants.{On, Contradiction, Over}
+use Rattle.configurations.specs.declared.look.Look.{Look}
+use Rattle.configurations.specs.declared.look.Look.the-variants.{Result, Call, Same, Atom, Pair, Variable, Large}
+use Rattle.configurations.specs.declared.configuration.Configuration.{Configuration}
+use Rattle.configurations.specs.declared.configuration.Moved.{Moved}
+use Rattle.configurations.specs.declared.configuration.Moved.the-variants.{On, Contradiction, Over}
 use Rattle.runner.specs.declared.forward.Ran.{Ran}
 use Rattle.runner.specs.declared.forward.Ran.the-variants.{Value, Over as RanOver, NotWithin}
 use Rattle.runner.specs.declared.forward.Turn.{Turn}

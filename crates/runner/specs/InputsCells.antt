@@ -4,15 +4,15 @@ use mathlib.Core.List.{List}
 use lib.ListN.{replicate}
 use Rattle.texts.specs.ReadCells.{zeros}
 use Rattle.syntax.specs.declared.job_ends.JobEnds.{JobEnds}
-use Rattle.transitions.specs.ConfigurationCells.{sizedOf}
-use Rattle.transitions.specs.ContractCells.{stores}
-use Rattle.transitions.specs.StartCells.{startedRun, configured}
-use Rattle.transitions.specs.declared.configuration.Configuration.{Configuration}
-use Rattle.transitions.specs.declared.configuration.Moved.{Moved}
-use Rattle.transitions.specs.declared.configuration.Moved.the-variants.{On, Contradiction, Over as MovedOver}
-use Rattle.transitions.specs.declared.start.Begun.{Begun}
-use Rattle.transitions.specs.declared.start.Started.{Started}
-use Rattle.transitions.specs.declared.start.Started.the-variants.{On as StartedOn, None, Over as StartedOver}
+use Rattle.configurations.specs.ConfigurationCells.{sizedOf}
+use Rattle.configurations.specs.ContractCells.{stores}
+use Rattle.starts.specs.StartCells.{startedRun, configured}
+use Rattle.configurations.specs.declared.configuration.Configuration.{Configuration}
+use Rattle.configurations.specs.declared.configuration.Moved.{Moved}
+use Rattle.configurations.specs.declared.configuration.Moved.the-variants.{On, Contradiction, Over as MovedOver}
+use Rattle.starts.specs.declared.start.Begun.{Begun}
+use Rattle.starts.specs.declared.start.Started.{Started}
+use Rattle.starts.specs.declared.start.Started.the-variants.{On as StartedOn, None, Over as StartedOver}
 use Rattle.runner.specs.ForwardCells.{RanAnswer, ranAnswer, ranOn}
 use Rattle.runner.specs.declared.forward.Ran.{Ran}
 use Rattle.runner.specs.declared.forward.Ran.the-variants.{Value, Over, NotWithin}

@@ -11,7 +11,7 @@ use Rattle.environments.specs.Storing.{storedEntry}
 use Rattle.environments.specs.EnvironmentCells.{counted}
 use Rattle.environments.specs.ValueCells.{CellEnv, environment, evaluated}
 use Rattle.environments.specs.ArgumentCells.{argumentEnd}
-use Rattle.transitions.specs.ConfigurationCells.{pastIndex, leftOf, rightOf}
+use Rattle.configurations.specs.ConfigurationCells.{pastIndex, leftOf, rightOf}
 use Rattle.transitions.specs.CallCells.{calleeOf}
 use Rattle.transitions.specs.TransitionCells.{boundNames, boundName}
 use Rattle.environments.specs.LateCells.{evaluatedLate, lateArguments}
@@ -21,17 +21,11 @@ use Rattle.environments.specs.declared.environment.Bound.the-variants.{Done as 
 use Rattle.environments.specs.declared.late.Late.{Late}
 use Rattle.environments.specs.declared.late.Delayed.{Delayed}
 use Rattle.environments.specs.declared.late.Delayed.the-variants.{Done as Later, Over as Full}
-use Rattle.transitions.specs.declared.look.Look.{Look}
-use Rattle.transitions.specs.declared.look.Look.the-variants.{Result, Call, Same, Atom, Pair, Variable, Large}
-use Rattle.runner.specs.declared.output.End.{End}
+use Rattle.configurations.specs.declared.look.Look.{Look}
+use Rattle.configurations.specs.declared.look.Look.the-variants.{Result, Call, Same, Atom, Pair, Variable, Large}
+use Rattle.configurations.specs.OutputCells.{plainOutput}
 
-abbrev pub withinEnv : Counts → End → End
-withinEnv e a = record { from = a .from; place = a .place; env = e; limit = a .limit }
-
--- the value of the expression at `from`, and that in an environment which is bound
-abbrev pub plainOutput : List ℕ → List ℕ → List ℕ → CellEnv → ℕ → ℕ → List ℕ → FillAnswer
-plainOutput marks nums ends e from limit d = evaluated marks nums e limit from (argumentEnd marks ends from) 0 d
-
+-- the output in an environment which is bound
 abbrev pub onBound : (Counts → FillAnswer) → List ℕ → Bound → FillAnswer
 onBound f d (Now n) = f n
 onBound f d BoundOver = fillAnswer Over d

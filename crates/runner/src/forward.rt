@@ -1,25 +1,25 @@
 // Running forwards: "One transition is one call or one decided condition, and a run's steps are its transitions".
 use crate::output;
-use crate::output::End;
+use configurations::branch;
+use configurations::configuration;
+use configurations::configuration::Configuration;
+use configurations::configuration::Moved;
+use configurations::look;
+use configurations::look::Look;
+use configurations::output::End;
 use environments::value;
 use lexer::keys::CALL;
 use lexer::keys::IF;
 use lexer::keys::OPEN;
 use sets::cell;
 use sets::fill::Filled;
-use sets::intersection;
-use transitions::branch;
 use transitions::call;
-use transitions::configuration;
-use transitions::configuration::Configuration;
-use transitions::configuration::Moved;
-use transitions::look;
-use transitions::look::Look;
 use transitions::step::is_call;
 use transitions::step::take_step;
+use unification::intersection;
 ghost use mathlib.Core.Path.{_≡_};
 ghost use Rattle.environments.specs.ValueCells.{environment};
-ghost use Rattle.transitions.specs.ContractCells.{stores};
+ghost use Rattle.configurations.specs.ContractCells.{stores};
 ghost use Rattle.runner.specs.ForwardCells.{isEnd, isSame, isHeld, nextOf, forwarded, GoneOut, EndedOut, finished, TurnOut, turnedBy, RanOut, ranOn};
 ghost use Rattle.transitions.specs.StepCells.{isCall, StepOut};
 

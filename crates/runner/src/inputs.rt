@@ -1,15 +1,15 @@
 // A run on the job's inputs (01, "Running forwards"), in storages of its own.
 use crate::forward;
 use crate::forward::Ran;
-use sets::intersection;
+use configurations::configuration::Configuration;
+use configurations::configuration::Moved;
+use configurations::configuration::sized;
+use starts::start;
+use starts::start::Begun;
+use starts::start::Started;
 use syntax::job_ends::JobEnds;
 use texts::clear::clear;
-use transitions::configuration::Configuration;
-use transitions::configuration::Moved;
-use transitions::configuration::sized;
-use transitions::start;
-use transitions::start::Begun;
-use transitions::start::Started;
+use unification::intersection;
 ghost use mathlib.Core.Path.{_≡_};
 ghost use Rattle.runner.specs.ForwardCells.{RanOut};
 ghost use Rattle.runner.specs.InputsCells.{settledRan, runLoop, runBegun, runInputs};

@@ -2,4 +2,4 @@
 // means is defined in the crate `semantics`, and what the functions over cells come to in specs/.
 pub mod forward;
 pub mod inputs;
-pub mod output;
+mod output;

@@ -1,6 +1,11 @@
 // The output of a run's end, in the environment that the last transition makes: "Its nodes are those of the inputs and the environment
 // values, at an end of the inputs and the output". That environment is stored only as far as it always fits, twice 4,096 cells; else the
 // output is read off the expressions of the names that are bound.
+use configurations::branch;
+use configurations::configuration;
+use configurations::look::Look;
+use configurations::output::End;
+use configurations::output::plain_output;
 use environments::arguments::argument_end;
 use environments::environment::Bound;
 use environments::environment::Counts;
@@ -10,65 +15,12 @@ use environments::store;
 use environments::value;
 use sets::cell;
 use sets::fill::Filled;
-use transitions::branch;
 use transitions::call;
-use transitions::configuration;
-use transitions::look::Look;
 use transitions::transition;
 ghost use mathlib.Core.Path.{_≡_};
 ghost use Rattle.environments.specs.Storing.{FilledOut, CopiedOut};
 ghost use Rattle.environments.specs.ValueCells.{environment};
-ghost use Rattle.runner.specs.OutputCells.{withinEnv, plainOutput, atomOutput, pairOutput, delayedParts, largeOutput, callOutput, endOutput};
-
-// The end whose term stands at `from`, behind the term at `place` in the environment env; its output may have `limit` nodes.
-pub struct End {
-    pub from: usize,
-    pub place: usize,
-    pub env: Counts,
-    pub limit: usize,
-}
-
-impl End {
-    fn within(self, env: Counts) -> End
-        ensures { λ r. ⌜ r ≡ withinEnv env self ⌝ }
-    {
-        End {
-            from: self.from,
-            place: self.place,
-            env: env,
-            limit: self.limit,
-        }
-    }
-}
-
-// In the environment as it is.
-pub fn plain_output(
-    marks: &[u16],
-    nums: &[u16],
-    ends: &[u16],
-    at: End,
-    ev: &[u16],
-    et: &[u16],
-    av: &[u16],
-    answer: &mut [u16],
-) -> Filled
-    ensures { λ r. ⌜ (let w = plainOutput (now (marks .entry)) (now (nums .entry)) (now (ends .entry)) (environment (now (ev .entry)) (now (et .entry)) (now (av .entry)) (at .env)) (at .from) (at .limit) (now (answer .entry)) in (r ≡ w .answer) × (now (answer .exit) ≡ w .cells)) ⌝ }
-{
-    let to = argument_end(marks, ends, at.from);
-    value::evaluate(
-        marks,
-        nums,
-        at.from,
-        to,
-        ev,
-        et,
-        av,
-        at.env,
-        answer,
-        0,
-        at.limit,
-    )
-}
+ghost use Rattle.runner.specs.OutputCells.{atomOutput, pairOutput, delayedParts, largeOutput, callOutput, endOutput};
 
 // Behind a `cons?` on an atom: its third name is bound to the code.
 fn atom_output(

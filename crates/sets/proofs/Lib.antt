@@ -5,10 +5,4 @@ pub mod CounterLaws
 pub mod ContractionLaws
 pub mod RestrictionTurns
 pub mod RestrictionLaws
-pub mod DisagreementTurns
-pub mod IntersectionTurns
-pub mod DisagreementLaws
-pub mod ClassCells
-pub mod ClassFilling
-pub mod IntersectionLaws
-pub mod MeetingLengths
+pub mod Lengths

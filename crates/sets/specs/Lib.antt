@@ -3,5 +3,3 @@ pub mod Fill
 pub mod Counting
 pub mod Contracting
 pub mod Restricting
-pub mod Disagreeing
-pub mod Meeting

@@ -3,7 +3,5 @@
 pub mod cell;
 pub mod contraction;
 pub mod counter;
-pub mod difference;
 pub mod fill;
-pub mod intersection;
 pub mod restriction;

@@ -19,12 +19,12 @@ use Rattle.language.specs.Source.{SExp, symS, evarS, avarS, pairS, SParam, exp,
 use Rattle.language.specs.ProgramCheck.{reachE, reachEa, reachArgs}
 use Rattle.syntax.specs.Standing.{WordAt, NameAt, ExpAt, symbolAt, consAt, ExpsAt, ParamsAt}
 use Rattle.syntax.specs.Standing as at
-use Rattle.syntax.specs.declared.check.Verdict.{Verdict}
-use Rattle.syntax.specs.declared.check.Verdict.the-variants.{Fine, Fault}
-use Rattle.syntax.specs.declared.check.Walked.{Walked}
-use Rattle.syntax.specs.declared.check.Args.{Args}
-use Rattle.syntax.specs.declared.check.Names.{Names}
-use Rattle.syntax.specs.CheckAt.{first, judge, ahead, walked, arguments, isNamed, inReach, leafAt, pairAt, pick, expAt, atomicAt, eaAt, argAt, argsAt}
+use Rattle.checker.specs.declared.check.Verdict.{Verdict}
+use Rattle.checker.specs.declared.check.Verdict.the-variants.{Fine, Fault}
+use Rattle.checker.specs.declared.check.Walked.{Walked}
+use Rattle.checker.specs.declared.check.Args.{Args}
+use Rattle.checker.specs.declared.check.Names.{Names}
+use Rattle.checker.specs.CheckAt.{first, judge, ahead, walked, arguments, isNamed, inReach, leafAt, pairAt, pick, expAt, atomicAt, eaAt, argAt, argsAt}
 
 -- a verdict of the meaning as the code has it
 abbrev pub coded : bytes.Verdict → Verdict

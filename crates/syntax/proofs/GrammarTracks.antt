@@ -15,8 +15,8 @@ use Rattle.language.specs.Grammar.{standing, word, orWord, leaf, leafD, consAt,
 use Rattle.syntax.proofs.GrammarAdvances.{takes, word-advances, tree-advances, leaf-advances, leafD-advances, expr-advances, datum-advances, args-advances, condition-advances, term-advances, cons-advances, parameter-advances, parameters-advances, definition-advances, definitions-advances, sides-advances, part-advances}
 use Rattle.lexer.specs.declared.got.Got.{Got}
 use Rattle.lexer.specs.declared.got.Got.the-variants.{Past}
-use Rattle.syntax.specs.Positions.{nothing, takeP, seqP, wrongP, chooseP, upToP}
-use Rattle.syntax.specs.Positions as at
+use Rattle.grammar.specs.Positions.{nothing, takeP, seqP, wrongP, chooseP, upToP}
+use Rattle.grammar.specs.Positions as at
 use Rattle.syntax.proofs.Tracks.{tokenAt, Tracks, give-tracks, wrong-tracks, take-tracks, choose-tracks, bind-tracks, then-tracks, last-tracks, upTo-tracks}
 
 module _ (ts : List Token) where

@@ -20,10 +20,10 @@ use Rattle.language.specs.Source.{SExp, symS, pairS, SParam, SJob, exp, exps, a
 use Rattle.language.specs.JobCheck.{Tool, lister, runner, groundVerdict, variables, kindsVerdict, standsIn, standsInAny, sideFits, sidesVerdict, jobVerdict}
 use Rattle.syntax.specs.Standing.{WordAt, NameAt, ExpAt, symbolAt, consAt, ExpsAt, ParamsAt, SidesAt, JobAt, jobAt}
 use Rattle.syntax.specs.Standing as at
-use Rattle.syntax.specs.declared.check.Verdict.{Verdict}
-use Rattle.syntax.specs.declared.check.Verdict.the-variants.{Fine}
-use Rattle.syntax.specs.declared.check.Walked.{Walked}
-use Rattle.syntax.specs.CheckAt.{first, judge, ahead, walked, arguments}
+use Rattle.checker.specs.declared.check.Verdict.{Verdict}
+use Rattle.checker.specs.declared.check.Verdict.the-variants.{Fine}
+use Rattle.checker.specs.declared.check.Walked.{Walked}
+use Rattle.checker.specs.CheckAt.{first, judge, ahead, walked, arguments}
 use Rattle.syntax.specs.JobCheckAt as check
 use Rattle.syntax.specs.JobCheckAt.{datumAt, inputsAt, standsFrom, sidesAt}
 use Rattle.syntax.proofs.CheckLaws.{coded, coded-first, coded-judge, first-fine, first-assoc, ahead-in, isA-other, exp-least, exp-most, keys, kinds, ats}

@@ -13,10 +13,10 @@ use Rattle.language.specs.Tokens.{Kind, symbol, evariable, avariable, plain, sa
 use Rattle.language.specs.Reader.{is, isA}
 use Rattle.language.specs.Source.{SExp, symS, evarS, avarS, pairS, SJob}
 use Rattle.language.specs.Grammar.{standing}
-use Rattle.syntax.specs.Stored as stored
+use Rattle.grammar.specs.Stored as stored
 use Rattle.syntax.specs.JobStored.{valAt}
 use Rattle.lexer.specs.Lexed.{State}
-use Rattle.syntax.specs.StoredAt.{keyAt}
+use Rattle.checker.specs.StoredAt.{keyAt}
 use Rattle.syntax.specs.PartEnds.{partEnds, jobNumerals}
 use Rattle.syntax.specs.declared.numerals.Numerals.{Numerals}
 use Rattle.syntax.specs.Standing.{WordAt, NameAt, ExpAt, symbolAt, consAt, ExpsAt, SidesAt, JobAt, jobAt}

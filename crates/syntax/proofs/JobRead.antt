@@ -16,9 +16,9 @@ use Rattle.language.specs.Grammar.{jobText}
 use Rattle.language.specs.JobCheck.{Tool, jobVerdict}
 use Rattle.language.specs.Reading.{readJob}
 use Rattle.lexer.specs.declared.got.Got.the-variants.{Past, Refused}
-use Rattle.syntax.specs.Positions.{onPast}
-use Rattle.syntax.specs.Stored as stored
-use Rattle.syntax.specs.StoredAt.{keyAt, tagAt, numAt, atAt}
+use Rattle.grammar.specs.Positions.{onPast}
+use Rattle.grammar.specs.Stored as stored
+use Rattle.checker.specs.StoredAt.{keyAt, tagAt, numAt, atAt}
 use Rattle.syntax.specs.JobStored as check
 use Rattle.syntax.specs.JobStored.{numeralFrom, valAt}
 use Rattle.syntax.specs.JobCheckAt as at

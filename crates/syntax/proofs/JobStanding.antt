@@ -9,7 +9,7 @@ use native.Mathlib.Nat.{add-assoc}
 use lib.ListN.{length, drop}
 use Rattle.language.specs.Tokens.{plain, ofJob, Token}
 use Rattle.language.specs.Reader.{ok, Reader, is}
-use Rattle.syntax.specs.Positions.{nothing}
+use Rattle.grammar.specs.Positions.{nothing}
 use Rattle.language.specs.Source.{Stand, SExp, SJob}
 use Rattle.language.specs.Grammar as grammar
 use Rattle.syntax.specs.Standing.{WordAt, NameAt, ExpAt, ExpsAt, SidesAt, NumeralAt, JobAt, jobAt}

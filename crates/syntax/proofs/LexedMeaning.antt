@@ -12,7 +12,7 @@ use lib.Seq.{length-take-le, getD-set-same, getD-set-other}
 use borrow.Author.Tests.{ltb-true, ltb-false}
 use Rattle.language.specs.Words.{Word}
 use Rattle.language.specs.Tokens.{Piece, keyOf, firsts, isSymbol, isAmong, Token, tokensFrom}
-use Rattle.syntax.specs.Positions.{nothing}
+use Rattle.grammar.specs.Positions.{nothing}
 use Rattle.lexer.specs.Marks.{markOf, cellOf}
 use Rattle.lexer.specs.Cutting.{startAt, pieceEnd, wordAt}
 use Rattle.lexer.specs.Judged.{textOf}

@@ -2,9 +2,6 @@ pub mod Advances
 pub mod GrammarAdvances
 pub mod Tracks
 pub mod GrammarTracks
-pub mod StoredReaders
-pub mod TermReaders
-pub mod TextReaders
 pub mod ReadParts
 pub mod Standing
 pub mod JobStanding
@@ -17,7 +14,7 @@ pub mod StoredCheck
 pub mod EndsLaws
 pub mod JobLaws
 pub mod TokenLaws
-pub mod CheckOpenings
+pub mod PartOpenings
 pub mod Shut
 pub mod LexedMeaning
 pub mod TokenCells

@@ -11,7 +11,7 @@ use Rattle.expressions.proofs.Predicates.{All}
 use Rattle.language.specs.Words.{Word, fits, numeralFit, value}
 use Rattle.language.specs.Tokens.{Piece, cut, Kind, symbol, ename, aname, evariable, avariable, plain, sameKind, kindOf, ofJob, fitOf, numOf, fitting, symbolsOf, namesOf, Token, token, tokensFrom, tokens}
 use Rattle.language.specs.Reader.{isA}
-use Rattle.syntax.specs.Positions.{nothing}
+use Rattle.grammar.specs.Positions.{nothing}
 use Rattle.lexer.specs.Cutting.{startAt, pieceEnd, wordAt}
 use Rattle.syntax.specs.JobStored.{numeralFrom}
 use Rattle.syntax.proofs.Tracks.{tokenAt}

@@ -22,12 +22,12 @@ use Rattle.language.specs.ProgramCheck.{termTwice, defsTwice, termVerdict, defs
 use Rattle.language.specs.ProgramCheck as meaning
 use Rattle.syntax.specs.Standing.{WordAt, NameAt, TermAt, ParamsAt, DefAt, defineAt, DefsAt, HeadsAt, ProgramAt}
 use Rattle.syntax.specs.Standing as at
-use Rattle.syntax.specs.declared.check.Verdict.{Verdict}
-use Rattle.syntax.specs.declared.check.Verdict.the-variants.{Fine, Fault}
-use Rattle.syntax.specs.declared.check.Names.{Names}
-use Rattle.syntax.specs.declared.check.Defs.{Defs}
-use Rattle.syntax.specs.CheckAt as check
-use Rattle.syntax.specs.CheckAt.{first, judge, ahead, noNames, push, paramsTwice, defsAt, bodiesAt, programAt}
+use Rattle.checker.specs.declared.check.Verdict.{Verdict}
+use Rattle.checker.specs.declared.check.Verdict.the-variants.{Fine, Fault}
+use Rattle.checker.specs.declared.check.Names.{Names}
+use Rattle.checker.specs.declared.check.Defs.{Defs}
+use Rattle.checker.specs.CheckAt as check
+use Rattle.checker.specs.CheckAt.{first, judge, ahead, noNames, push, paramsTwice, defsAt, bodiesAt, programAt}
 use Rattle.syntax.proofs.CheckLaws.{coded, coded-first, coded-judge, first-fine, first-assoc, ahead-in, is-other, keys, kinds, nums, ats}
 use Rattle.syntax.proofs.NameLaws.{Wide, wide-less, no-names-wide, push-wide, reached, push-reached, same-kind, no-names-reach, params-end, params-wide, params-reach}
 use Rattle.syntax.proofs.TermLaws.{place-at, term-at}

@@ -14,9 +14,9 @@ use Rattle.language.specs.Grammar.{program}
 use Rattle.language.specs.ProgramCheck.{programVerdict}
 use Rattle.language.specs.Reading.{readProgram}
 use Rattle.lexer.specs.declared.got.Got.the-variants.{Past, Refused}
-use Rattle.syntax.specs.Positions.{onPast}
-use Rattle.syntax.specs.Stored as stored
-use Rattle.syntax.specs.CheckStored as check
+use Rattle.grammar.specs.Positions.{onPast}
+use Rattle.grammar.specs.Stored as stored
+use Rattle.checker.specs.CheckStored as check
 use Rattle.lexer.specs.Cutting.{bytesAt, wordAt}
 use Rattle.lexer.specs.Table.{wordOn, wordIn}
 use Rattle.lexer.specs.Lexed.{State, starting, cutFrom}

@@ -17,8 +17,8 @@ use Rattle.language.specs.Reader.{Res, ok, refused, refuse, andThen, unlessFaul
 use Rattle.language.specs.Reading.{readText}
 use Rattle.lexer.specs.declared.got.Got.{Got}
 use Rattle.lexer.specs.declared.got.Got.the-variants.{Past, Refused}
-use Rattle.syntax.specs.declared.check.Verdict.{Verdict}
-use Rattle.syntax.specs.Positions.{onPast}
+use Rattle.checker.specs.declared.check.Verdict.{Verdict}
+use Rattle.grammar.specs.Positions.{onPast}
 use Rattle.lexer.specs.Cutting.{scan, outsideAt, soundAt, shortAt, bytesAt}
 use Rattle.syntax.specs.ReadAnswer.{verdictGot, answer, resGot, bytesGot}
 use Rattle.syntax.proofs.Tracks.{gotOf}

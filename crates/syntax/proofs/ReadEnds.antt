@@ -7,8 +7,8 @@ use Rattle.language.specs.Tokens.{plain, Token}
 use Rattle.language.specs.Grammar.{isEnd}
 use Rattle.lexer.specs.declared.got.Got.{Got}
 use Rattle.lexer.specs.declared.got.Got.the-variants.{Past, Refused}
-use Rattle.syntax.specs.Positions as at
-use Rattle.syntax.specs.Positions.{onPast, seqP, pickP, wrongP, chooseP, upToP}
+use Rattle.grammar.specs.Positions as at
+use Rattle.grammar.specs.Positions.{onPast, seqP, pickP, wrongP, chooseP, upToP}
 use Rattle.syntax.proofs.Shut.{past-inj, refused-past}
 
 module _ (tok : ℕ → Token) (n : ℕ) where

@@ -11,7 +11,7 @@ use lib.Seq.{drop-drop, getD-drop}
 use Rattle.language.specs.Words.{Fit, fits, broken, long, many}
 use Rattle.language.specs.Tokens.{Token}
 use Rattle.language.specs.Reader.{Res, ok, andThen, Reader, _>>=_, _>>_, give, judged, take, is, wrong, next, pick, choose, manyIn, upTo}
-use Rattle.syntax.specs.Positions.{nothing}
+use Rattle.grammar.specs.Positions.{nothing}
 use Rattle.syntax.proofs.Advances.{ok-inj, refused-ok, then-ok}
 use Rattle.syntax.proofs.Tracks.{tokenAt}
 

@@ -17,8 +17,8 @@ use Rattle.language.specs.Reader.{is, isA, fitIf, roomed, oneFit}
 use Rattle.language.specs.Grammar.{isEnd}
 use Rattle.lexer.specs.declared.got.Got.{Got}
 use Rattle.lexer.specs.declared.got.Got.the-variants.{Past, Refused}
-use Rattle.syntax.specs.Positions as at
-use Rattle.syntax.specs.Positions.{onPast, judgedAt, seqP, pickP, takeP, wrongP, chooseP, manyP, upToP}
+use Rattle.grammar.specs.Positions as at
+use Rattle.grammar.specs.Positions.{onPast, judgedAt, seqP, pickP, takeP, wrongP, chooseP, manyP, upToP}
 use Rattle.syntax.proofs.Standing.{roomed-fits}
 
 -- two tokens that differ in their numbers at most

@@ -10,7 +10,7 @@ use lib.ListN.{length, drop}
 use Rattle.language.specs.Words.{Fit, fits, broken, long, many}
 use Rattle.language.specs.Tokens.{Kind, symbol, ename, aname, evariable, avariable, plain, Text, ofProgram, ofJob, Token}
 use Rattle.language.specs.Reader.{ok, Reader, is, isA, fitIf, roomed, oneFit, oneOf, the, theIn}
-use Rattle.syntax.specs.Positions.{nothing}
+use Rattle.grammar.specs.Positions.{nothing}
 use Rattle.language.specs.Program.{pe, pa}
 use Rattle.language.specs.Source.{Stand, SExp, symS, evarS, avarS, pairS, SCondition, eqaS, conspS, STerm, callS, conditionalS, resultS, SParam, SDef, SProg}
 use Rattle.language.specs.Grammar as grammar

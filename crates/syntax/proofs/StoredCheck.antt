@@ -12,16 +12,16 @@ use Rattle.language.specs.Grammar.{program}
 use Rattle.language.specs.Source.{SProg, functions, defs, prog}
 use Rattle.language.specs.ProgramCheck.{programVerdict}
 use Rattle.lexer.specs.Marks.{kindAt, kindTag, decode}
-use Rattle.syntax.specs.Stored.{markAt, offsetAt}
-use Rattle.syntax.specs.Stored as stored
-use Rattle.syntax.specs.Positions.{nothing}
-use Rattle.syntax.specs.StoredAt.{keyAt, tagAt, numAt, atAt}
+use Rattle.grammar.specs.Stored.{markAt, offsetAt}
+use Rattle.grammar.specs.Stored as stored
+use Rattle.grammar.specs.Positions.{nothing}
+use Rattle.checker.specs.StoredAt.{keyAt, tagAt, numAt, atAt}
 use Rattle.syntax.specs.Standing.{ProgramAt, HeadsAt}
 use Rattle.syntax.specs.Placed.{DefsIn}
-use Rattle.syntax.specs.CheckStored.{programAt, defsAt}
-use Rattle.syntax.specs.CheckAt as at
-use Rattle.syntax.specs.CheckAt.{noDefs}
-use Rattle.syntax.specs.declared.check.Defs.{Defs}
+use Rattle.checker.specs.CheckStored.{programAt, defsAt}
+use Rattle.checker.specs.CheckAt as at
+use Rattle.checker.specs.CheckAt.{noDefs}
+use Rattle.checker.specs.declared.check.Defs.{Defs}
 use Rattle.syntax.proofs.Tracks.{tokenAt}
 use native.Mathlib.Omega.{arith}
 use borrow.Author.Tests.{ltb-true}
@@ -29,7 +29,7 @@ use Rattle.syntax.proofs.CheckLaws.{coded, keys, kinds, nums, ats}
 use Rattle.syntax.proofs.Standing.{program-stands}
 use Rattle.syntax.proofs.ProgramLaws.{program-checked, program-table}
 use Rattle.syntax.proofs.Placed.{defs-placed}
-use Rattle.syntax.proofs.StoredReaders.{tag-kind}
+use Rattle.grammar.proofs.StoredReaders.{tag-kind}
 
 module _ (marks nums′ ats′ : List ℕ) (n : ℕ) where
   abbrev tok : ℕ → Token

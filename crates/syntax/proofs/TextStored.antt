@@ -17,10 +17,10 @@ use Rattle.language.specs.Source.{SProg, SJob}
 use Rattle.language.specs.Grammar.{program, jobText}
 use Rattle.lexer.specs.declared.got.Got.{Got}
 use Rattle.lexer.specs.declared.got.Got.the-variants.{Past}
-use Rattle.syntax.specs.Positions.{nothing, programP, jobP}
+use Rattle.grammar.specs.Positions.{nothing, programP, jobP}
 use Rattle.lexer.specs.Marks.{fitNumber, cellOf, markOf, decode}
-use Rattle.syntax.specs.Stored.{seen, programAt, jobAt}
-use Rattle.syntax.specs.Stored as stored
+use Rattle.grammar.specs.Stored.{seen, programAt, jobAt}
+use Rattle.grammar.specs.Stored as stored
 use Rattle.lexer.specs.Cutting.{wordAt}
 use Rattle.lexer.specs.Judged.{textOf}
 use Rattle.lexer.specs.Table.{wordIn}

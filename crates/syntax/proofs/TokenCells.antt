@@ -11,7 +11,7 @@ use Rattle.expressions.proofs.Predicates.{All}
 use Rattle.language.specs.Words.{Word, Fit, fits, broken, long, many}
 use Rattle.language.specs.Tokens.{Piece, cut, Kind, symbol, ename, aname, evariable, avariable, plain, kindOf, Text, ofProgram, ofJob, fitOf, numOf, fitting, symbolsOf, namesOf, Token, tokensFrom, tokens}
 use Rattle.language.proofs.TokenNumbers.{KindNumber, TokenNumber, text-numbered}
-use Rattle.syntax.specs.Positions.{nothing}
+use Rattle.grammar.specs.Positions.{nothing}
 use Rattle.lexer.specs.Marks.{fitNumber, cellOf}
 use Rattle.lexer.specs.Lexed.{shutAt, shuts}
 use Rattle.syntax.proofs.Tracks.{tokenAt}

@@ -4,11 +4,11 @@ use Prim.Native.Nat.{ℕ, zero, suc, _+_, _-_}
 use mathlib.Core.Bool.{Bool, true, false, cond, _&&_, _||_, not}
 use lib.Dec.{eqb, leb}
 use Rattle.language.specs.Tokens.{symbol, aname, evariable, avariable, tag}
-use Rattle.syntax.specs.declared.check.Verdict.{Verdict}
-use Rattle.syntax.specs.declared.check.Verdict.the-variants.{Fine, Fault}
-use Rattle.syntax.specs.declared.check.Walked.{Walked}
-use Rattle.syntax.specs.declared.check.Args.{Args}
-use Rattle.syntax.specs.CheckAt.{first, judge, ahead, walked, arguments, pick}
+use Rattle.checker.specs.declared.check.Verdict.{Verdict}
+use Rattle.checker.specs.declared.check.Verdict.the-variants.{Fine, Fault}
+use Rattle.checker.specs.declared.check.Walked.{Walked}
+use Rattle.checker.specs.declared.check.Args.{Args}
+use Rattle.checker.specs.CheckAt.{first, judge, ahead, walked, arguments, pick}
 
 -- key, kind, num and at give what a token of the job holds, by its index; there are n. `runs` is whether the tool is the runner.
 module _ (key kind at : ℕ → ℕ) (n : ℕ) (runs : Bool) where

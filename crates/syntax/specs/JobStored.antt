@@ -5,12 +5,12 @@ use mathlib.Core.Bool.{Bool, cond}
 use mathlib.Core.List.{List}
 use lib.Dec.{leb, ltb}
 use lib.ListN.{length, getD}
-use Rattle.syntax.specs.StoredAt.{keyAt, tagAt, numAt, atAt}
-use Rattle.syntax.specs.CheckAt.{ahead}
+use Rattle.checker.specs.StoredAt.{keyAt, tagAt, numAt, atAt}
+use Rattle.checker.specs.CheckAt.{ahead}
 use Rattle.syntax.specs.JobCheckAt as at
-use Rattle.syntax.specs.declared.check.Verdict.{Verdict}
-use Rattle.syntax.specs.declared.check.Walked.{Walked}
-use Rattle.syntax.specs.declared.check.Args.{Args}
+use Rattle.checker.specs.declared.check.Verdict.{Verdict}
+use Rattle.checker.specs.declared.check.Walked.{Walked}
+use Rattle.checker.specs.declared.check.Args.{Args}
 
 -- "Numerals are base ten ... at most 7 digits": v is what the digits before come to, `left` how many more may stand
 unfoldable pub numeralFrom : List ℕ → ℕ → ℕ → ℕ → ℕ

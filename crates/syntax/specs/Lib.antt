@@ -1,9 +1,4 @@
-pub mod Positions
-pub mod Stored
-pub mod StoredAt
-pub mod CheckStored
 pub mod Standing
-pub mod CheckAt
 pub mod Placed
 pub mod Ends
 pub mod JobCheckAt

@@ -2,7 +2,7 @@
 -- proofs/PartLaws.antt: so they are.
 use Prim.Native.Nat.{ℕ, _+_, _-_}
 use mathlib.Core.List.{List}
-use Rattle.syntax.specs.CheckAt.{ahead}
+use Rattle.checker.specs.CheckAt.{ahead}
 use Rattle.syntax.specs.Ends.{pastAt}
 use Rattle.syntax.specs.JobStored.{valAt}
 use Rattle.syntax.specs.declared.job_ends.JobEnds.{JobEnds}

@@ -7,12 +7,12 @@ use Rattle.language.specs.Bytes as bytes
 use Rattle.language.specs.Reader.{Res, ok, refused}
 use Rattle.lexer.specs.declared.got.Got.{Got}
 use Rattle.lexer.specs.declared.got.Got.the-variants.{Past, Refused}
-use Rattle.syntax.specs.declared.check.Verdict.{Verdict}
-use Rattle.syntax.specs.declared.check.Verdict.the-variants.{Fine, Fault}
-use Rattle.syntax.specs.Positions.{onPast}
+use Rattle.checker.specs.declared.check.Verdict.{Verdict}
+use Rattle.checker.specs.declared.check.Verdict.the-variants.{Fine, Fault}
+use Rattle.grammar.specs.Positions.{onPast}
 use Rattle.lexer.specs.Cutting.{bytesAt}
-use Rattle.syntax.specs.Stored as stored
-use Rattle.syntax.specs.CheckStored as check
+use Rattle.grammar.specs.Stored as stored
+use Rattle.checker.specs.CheckStored as check
 use Rattle.syntax.specs.JobStored as jobCheck
 
 -- the index behind what was read, or what the check finds

@@ -1,18 +1,18 @@
 // The check of a job by its tokens: "Job: 10, 11, 12" (01, "From the input"). The tokens, n of the job and m of the program before it, were
 // read without refusal; `main` holds the marks of the program's, `runs` is whether the tool is the runner.
-use crate::check::Args;
-use crate::check::Verdict;
-use crate::check::Walked;
-use crate::check::both;
-use crate::check::either;
-use crate::check::first;
-use crate::check::judge;
-use crate::check::negated;
-use crate::places::ahead;
-use crate::places::key;
-use crate::places::kind;
-use crate::places::num;
-use crate::places::offset;
+use checker::check::Args;
+use checker::check::Verdict;
+use checker::check::Walked;
+use checker::check::both;
+use checker::check::either;
+use checker::check::first;
+use checker::check::judge;
+use checker::check::negated;
+use checker::places::ahead;
+use checker::places::key;
+use checker::places::kind;
+use checker::places::num;
+use checker::places::offset;
 use lexer::cells::byte;
 use lexer::keys::ANAME;
 use lexer::keys::AVARIABLE;

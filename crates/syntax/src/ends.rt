@@ -1,6 +1,6 @@
 // Where what starts at a token ends, by the brackets (specs/Ends.antt): for who skips a branch.
-use crate::check::either;
-use crate::places::key;
+use checker::check::either;
+use checker::places::key;
 use lexer::cells::put;
 use lexer::keys::CLOSE;
 use lexer::keys::CLOSE_LIST;
@@ -9,7 +9,7 @@ use lexer::keys::OPEN_LIST;
 ghost use mathlib.Core.Path.{_≡_};
 ghost use Prim.Native.Nat.{_-_};
 ghost use Rattle.lexer.specs.Marks.{cellOf};
-ghost use Rattle.syntax.specs.StoredAt.{keyAt};
+ghost use Rattle.checker.specs.StoredAt.{keyAt};
 ghost use Rattle.syntax.specs.Ends.{opens, closes, closeFrom, pastAt, endsFrom};
 
 fn is_open(marks: &[u16], n: usize, i: usize) -> bool

@@ -1,12 +1,12 @@
 // Where the definitions of an accepted program stand.
-use crate::check::index;
-use crate::check_program::definitions;
 use crate::ends::narrow;
+use checker::check::index;
+use checker::check_program::definitions;
 use lexer::cells::put;
 ghost use mathlib.Core.Path.{_≡_};
 ghost use Prim.Native.Nat.{_-_};
-ghost use Rattle.syntax.specs.CheckAt.{noDefs};
-ghost use Rattle.syntax.specs.CheckStored.{defsAt};
+ghost use Rattle.checker.specs.CheckAt.{noDefs};
+ghost use Rattle.checker.specs.CheckStored.{defsAt};
 ghost use Rattle.syntax.specs.Heads.{headsFrom};
 
 // The first `count` indices, as cells.

@@ -1,9 +1,9 @@
 // Where the parts of a job stand, by its brackets: `(job (in d ..) (out d) (neq [d d] ..) ..`. For who reads the data again.
 use crate::ends::past;
-use crate::places::ahead;
+use checker::places::ahead;
 ghost use mathlib.Core.Path.{_≡_};
 ghost use Prim.Native.Nat.{_-_};
-ghost use Rattle.syntax.specs.StoredAt.{keyAt};
+ghost use Rattle.checker.specs.StoredAt.{keyAt};
 ghost use Rattle.syntax.specs.PartEnds.{partEnds};
 
 // The inputs stand from the fifth token up to `ins`, the output from `from` up to `out`, the non-equalities from `sides` up to

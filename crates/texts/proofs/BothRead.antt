@@ -13,13 +13,13 @@ use Rattle.language.specs.Reader.{Res, ok, refused}
 use Rattle.language.specs.Reading.{readProgram, readJob, Reading, accepted, rejected, withJob, withProgram, reading}
 use Rattle.lexer.specs.Lexed.{State, starting}
 use Rattle.lexer.proofs.CutLengths.{SameLengths, cut-lengths}
-use Rattle.syntax.specs.StoredAt.{keyAt}
+use Rattle.checker.specs.StoredAt.{keyAt}
 use Rattle.syntax.specs.PartEnds.{partEnds, jobNumerals}
-use Rattle.syntax.specs.CheckAt.{noDefs}
-use Rattle.syntax.specs.CheckStored.{defsAt}
+use Rattle.checker.specs.CheckAt.{noDefs}
+use Rattle.checker.specs.CheckStored.{defsAt}
 use Rattle.syntax.specs.Heads.{headsFrom}
 use Rattle.syntax.specs.Ends.{endsFrom}
-use Rattle.syntax.specs.declared.check.Defs.{Defs}
+use Rattle.checker.specs.declared.check.Defs.{Defs}
 use Rattle.syntax.specs.declared.job_ends.JobEnds.{JobEnds}
 use Rattle.syntax.proofs.ProgramRead.{ProgramStored}
 use Rattle.syntax.proofs.JobRead.{JobStored}

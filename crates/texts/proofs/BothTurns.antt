@@ -4,9 +4,9 @@ use mathlib.Core.Path.{_≡_, refl, ap, _∙_}
 use mathlib.Core.Bool.{Bool, true, false}
 use mathlib.Core.List.{List}
 use lib.ListN.{replicate}
-use Rattle.syntax.specs.StoredAt.{keyAt}
-use Rattle.syntax.specs.CheckAt.{noDefs}
-use Rattle.syntax.specs.CheckStored.{defsAt}
+use Rattle.checker.specs.StoredAt.{keyAt}
+use Rattle.checker.specs.CheckAt.{noDefs}
+use Rattle.checker.specs.CheckStored.{defsAt}
 use Rattle.syntax.specs.Heads.{headsFrom}
 use Rattle.syntax.specs.Ends.{endsFrom}
 use Rattle.syntax.specs.PartEnds.{partEnds, jobNumerals}

@@ -5,9 +5,9 @@ use mathlib.Core.Bool.{Bool, false, cond}
 use mathlib.Core.List.{List}
 use lib.Dec.{ltb}
 use lib.ListN.{length, replicate}
-use Rattle.syntax.specs.StoredAt.{keyAt}
-use Rattle.syntax.specs.CheckAt.{noDefs}
-use Rattle.syntax.specs.CheckStored.{defsAt}
+use Rattle.checker.specs.StoredAt.{keyAt}
+use Rattle.checker.specs.CheckAt.{noDefs}
+use Rattle.checker.specs.CheckStored.{defsAt}
 use Rattle.syntax.specs.Heads.{headsFrom}
 use Rattle.syntax.specs.Ends.{endsFrom}
 use Rattle.syntax.specs.PartEnds.{partEnds, jobNumerals}

@@ -11,7 +11,7 @@ use Rattle.language.specs.Tokens.{symbolsOf}
 use Rattle.language.specs.JobCheck.{Tool, lister, runner}
 use Rattle.language.specs.Reading.{readProgram, readJob}
 use Rattle.syntax.specs.ReadAnswer.{programJudged, jobJudged}
-use Rattle.syntax.specs.Stored as stored
+use Rattle.grammar.specs.Stored as stored
 use Rattle.syntax.specs.JobStored as job
 use Rattle.lexer.specs.Cutting.{bytesAt}
 use Rattle.lexer.specs.Lexed.{State, cutFrom, starting}

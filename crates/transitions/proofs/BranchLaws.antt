@@ -20,15 +20,15 @@ use Rattle.semantics.specs.Environment.{update, updateE}
 use Rattle.semantics.specs.Configuration.{substOfEnv, state, withEnv, nodesValues, nodesState, Configuration}
 use Rattle.semantics.specs.Trace.{Successors, branches, configuration, tracePair, successorsOf}
 use Rattle.environments.specs.ValueCells.{environment}
-use Rattle.transitions.specs.ContractCells.{Stores, stores, MovedAnswer, movedAnswer}
-use Rattle.transitions.specs.LookCells.{LookAnswer, lookTerm}
+use Rattle.configurations.specs.ContractCells.{Stores, stores, MovedAnswer, movedAnswer}
+use Rattle.configurations.specs.LookCells.{LookAnswer, lookTerm}
 use Rattle.transitions.specs.BranchCells.{trueTaken, falseTaken}
-use Rattle.transitions.specs.declared.configuration.Configuration.{Configuration as InCells}
-use Rattle.transitions.specs.declared.configuration.Moved.the-variants.{Contradiction, Over}
-use Rattle.transitions.proofs.ConfigurationLaws.{HoldsPair, Room, holds-cells}
-use Rattle.transitions.proofs.CopyLaws.{nodes-positive}
-use Rattle.transitions.proofs.PlaceLaws.{ProgramPlaced}
-use Rattle.transitions.proofs.LookLaws.{Tested, atom, variable, parts, large, look-eqa, look-consp}
+use Rattle.configurations.specs.declared.configuration.Configuration.{Configuration as InCells}
+use Rattle.configurations.specs.declared.configuration.Moved.the-variants.{Contradiction, Over}
+use Rattle.configurations.proofs.ConfigurationLaws.{HoldsPair, Room, holds-cells}
+use Rattle.configurations.proofs.CopyLaws.{nodes-positive}
+use Rattle.configurations.proofs.PlaceLaws.{ProgramPlaced}
+use Rattle.configurations.proofs.LookLaws.{Tested, atom, variable, parts, large, look-eqa, look-consp}
 use Rattle.transitions.proofs.EngineLaws.{Leads, same-leads, other-leads, atom-leads, pair-leads, split-pair-leads, split-atom-leads}
 
 -- what a name is bound to is counted

@@ -27,19 +27,19 @@ use Rattle.semantics.specs.Configuration.{ExpEnv, substOfEnv, state, withEnv, n
 use Rattle.environments.specs.EnvironmentCells.{counted}
 use Rattle.environments.specs.ValueCells.{environment, keyCell}
 use Rattle.environments.specs.ArgumentCells.{boundArguments}
-use Rattle.transitions.specs.ConfigurationCells.{withCounts, placedAt, sizedOf, pastIndex}
-use Rattle.transitions.specs.ContractCells.{Stores, stores, MovedAnswer, movedAnswer}
+use Rattle.configurations.specs.ConfigurationCells.{withCounts, placedAt, sizedOf, pastIndex}
+use Rattle.configurations.specs.ContractCells.{Stores, stores, MovedAnswer, movedAnswer}
 use Rattle.transitions.specs.CallCells.{headFrom, headOf, closingFrom, closing, bodyOf, afterArguments, entered, calledCells}
-use Rattle.transitions.specs.declared.configuration.Configuration.{Configuration}
-use Rattle.transitions.specs.declared.configuration.Moved.the-variants.{Over}
+use Rattle.configurations.specs.declared.configuration.Configuration.{Configuration}
+use Rattle.configurations.specs.declared.configuration.Moved.the-variants.{Over}
 use Rattle.environments.specs.declared.environment.Bound.the-variants.{Over as BoundOver}
 use Rattle.environments.proofs.ArgumentLaws.{Argued, arguments-hold, arguments-not}
 use Rattle.environments.proofs.CellEnvironments.{values-nodes}
-use Rattle.transitions.proofs.ConfigurationLaws.{HoldsPair, Outcome, holds-placed}
+use Rattle.configurations.proofs.ConfigurationLaws.{HoldsPair, Outcome, holds-placed}
 use Rattle.environments.proofs.ContractionEnvironment.{map-length}
-use Rattle.transitions.proofs.CopyLaws.{copied-table, copied-values, names-nodes}
+use Rattle.configurations.proofs.CopyLaws.{copied-table, copied-values, names-nodes}
 use Rattle.environments.proofs.EnvironmentLaws.{valueCells}
-use Rattle.transitions.proofs.PlaceLaws.{exps-stand, params-stand, ProgramPlaced, past-small, key-is, num-is}
+use Rattle.configurations.proofs.PlaceLaws.{exps-stand, params-stand, ProgramPlaced, past-small, key-is, num-is}
 use Rattle.transitions.proofs.TransitionLaws.{Settled, settle}
 use Rattle.transitions.proofs.TransitionTurns.{closing-here, closing-later}
 use Rattle.environments.proofs.ValueLaws.{Holds}

@@ -30,27 +30,27 @@ use Rattle.sets.proofs.CellLaws.{cells-nodes, cellsAll-nodes}
 use Rattle.sets.proofs.ContractionLaws.{code-tag, atomicCode-same}
 use Rattle.sets.proofs.RestrictionLaws.{Front, Answers, addCells-means, bindCells-means}
 use Rattle.sets.proofs.FillLaws.{spread-append, laid, length-laid, filled-done, filled-over}
-use Rattle.sets.proofs.ClassFilling.{Spreads, spreads-e, spreads-a, renamed-take}
-use Rattle.sets.proofs.ClassCells.{class-held}
+use Rattle.unification.proofs.ClassFilling.{Spreads, spreads-e, spreads-a, renamed-take}
+use Rattle.unification.proofs.ClassCells.{class-held}
 use Rattle.semantics.specs.Environment.{mapValues}
 use Rattle.semantics.specs.Configuration.{ExpEnv, applyEnv, State, state, nodesValues, nodesState}
 use Rattle.environments.specs.EnvironmentCells.{counted}
 use Rattle.environments.specs.ValueCells.{environment}
 use Rattle.environments.specs.ContractionCells.{renamedValues, filledEntries}
-use Rattle.transitions.specs.ConfigurationCells.{withNeqs, sizedOf}
-use Rattle.transitions.specs.ContractCells.{Stores, stores, MovedAnswer, movedAnswer, RestrictionAnswer, afterRestriction, boundRestriction, filledInputs, afterInputs, inputsAnswer, InputsAnswer, filledConfiguration, boundPair, copiedTable, contracted}
+use Rattle.configurations.specs.ConfigurationCells.{withNeqs, sizedOf}
+use Rattle.configurations.specs.ContractCells.{Stores, stores, MovedAnswer, movedAnswer, RestrictionAnswer, afterRestriction, boundRestriction, filledInputs, afterInputs, inputsAnswer, InputsAnswer, filledConfiguration, boundPair, copiedTable, contracted}
 use Rattle.transitions.specs.TransitionCells.{afterContraction, advanced}
-use Rattle.transitions.specs.declared.contract.Inputs.the-variants.{Done as InputsDone, Over as InputsOver}
-use Rattle.transitions.specs.declared.configuration.Configuration.{Configuration}
-use Rattle.transitions.specs.declared.configuration.Moved.{Moved}
-use Rattle.transitions.specs.declared.configuration.Moved.the-variants.{On, Contradiction, Over}
-use Rattle.transitions.proofs.ConfigurationLaws.{HoldsPair, FillRoom, Arrived, Outcome, run-length, sized-on, sized-over}
+use Rattle.configurations.specs.declared.contract.Inputs.the-variants.{Done as InputsDone, Over as InputsOver}
+use Rattle.configurations.specs.declared.configuration.Configuration.{Configuration}
+use Rattle.configurations.specs.declared.configuration.Moved.{Moved}
+use Rattle.configurations.specs.declared.configuration.Moved.the-variants.{On, Contradiction, Over}
+use Rattle.configurations.proofs.ConfigurationLaws.{HoldsPair, FillRoom, Arrived, Outcome, run-length, sized-on, sized-over}
 use Rattle.environments.proofs.ContractionEnvironment.{map-length, bindCell-a, bindCell-e}
 use Rattle.environments.proofs.FillingEnvironment.{bindTree-environment, bindTree-not}
 use Rattle.environments.proofs.CellEnvironments.{values-nodes}
 use Rattle.environments.proofs.EnvironmentLaws.{valueCells, names}
 use Rattle.environments.proofs.ValueLaws.{Holds}
-use Rattle.transitions.proofs.CopyLaws.{copied-front, copied-values, names-nodes}
+use Rattle.configurations.proofs.CopyLaws.{copied-front, copied-values, names-nodes}
 
 -- What a contraction to o leaves: the contradiction, cells that hold it, or over, which only more than 4,096 nodes are.
 pub record Contracts (c : Configuration) (o : Option (CRPair state)) (w : MovedAnswer) : Type 0 where

@@ -22,10 +22,10 @@ use Rattle.sets.proofs.CellLaws.{restrictionCells-nodes}
 use Rattle.sets.proofs.ContractionLaws.{code-tag, atomicCode-same}
 use Rattle.sets.proofs.RestrictionLaws.{Front, front-room, Answers, kindCode, kindCells-means, bindCells-means}
 use Rattle.semantics.specs.Configuration.{state}
-use Rattle.transitions.specs.ContractCells.{copiedTable}
+use Rattle.configurations.specs.ContractCells.{copiedTable}
 use Rattle.transitions.specs.ContradictionCells.{contradictory, bindingTested, contradictoryKind, contradictionTested, sameTested, branchesTested}
-use Rattle.transitions.specs.declared.look.Look.the-variants.{Same}
-use Rattle.transitions.proofs.CopyLaws.{copied-front}
+use Rattle.configurations.specs.declared.look.Look.the-variants.{Same}
+use Rattle.configurations.proofs.CopyLaws.{copied-front}
 
 abbrev pub isNone : {A : Type 0} → Option A → Bool
 isNone none = true

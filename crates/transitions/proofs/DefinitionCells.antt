@@ -10,17 +10,17 @@ use lib.Seq.{getD-set-same, getD-set-other}
 use Rattle.language.specs.Program.{Prog}
 use Rattle.language.specs.Tokens.{Token}
 use Rattle.language.specs.Source.{SDef, SProg, defs, functions, progOf, prog}
-use Rattle.syntax.specs.Stored as stored
+use Rattle.grammar.specs.Stored as stored
 use Rattle.lexer.specs.Marks.{cellOf}
 use Rattle.lexer.specs.Lexed.{State}
 use Rattle.syntax.specs.Heads.{headsFrom}
-use Rattle.syntax.specs.CheckAt.{noDefs}
-use Rattle.syntax.specs.CheckStored.{defsAt}
+use Rattle.checker.specs.CheckAt.{noDefs}
+use Rattle.checker.specs.CheckStored.{defsAt}
 use Rattle.syntax.specs.Standing.{DefAt, defineAt, HeadsAt}
 use Rattle.syntax.specs.Standing as at
 use Rattle.syntax.specs.Placed.{DefIn, DefsIn}
 use Rattle.syntax.specs.Placed as placed
-use Rattle.syntax.specs.declared.check.Defs.{Defs}
+use Rattle.checker.specs.declared.check.Defs.{Defs}
 use Rattle.syntax.proofs.StoredCheck.{stored-definitions, stored-count, stored-heads, stored-few}
 use Rattle.syntax.proofs.ProgramRead.{ProgramStored}
 use Rattle.environments.proofs.UpdateLaws.{mod-below}

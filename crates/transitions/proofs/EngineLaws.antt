@@ -27,14 +27,14 @@ use Rattle.semantics.specs.Environment.{updateE, updateA, bindParams}
 use Rattle.semantics.specs.Configuration.{ExpEnv, substOfEnv, state, withEnv, nodesState, Configuration}
 use Rattle.semantics.specs.Evaluate.{startTerm}
 use Rattle.semantics.specs.Trace.{configuration}
-use Rattle.transitions.specs.ConfigurationCells.{placedAt, pastIndex, rightOf, trueOf, falseOf}
-use Rattle.transitions.specs.ContractCells.{Stores, stores, MovedAnswer, movedAnswer}
+use Rattle.configurations.specs.ConfigurationCells.{placedAt, pastIndex, rightOf, trueOf, falseOf}
+use Rattle.configurations.specs.ContractCells.{Stores, stores, MovedAnswer, movedAnswer}
 use Rattle.transitions.specs.TransitionCells.{sameTaken, otherTaken, pairTaken, atomTaken, pairSplit, atomSplit}
 use Rattle.transitions.specs.CallCells.{headOf, bodyOf, entered, calledCells}
-use Rattle.transitions.specs.declared.configuration.Configuration.{Configuration as InCells}
-use Rattle.transitions.specs.declared.configuration.Moved.the-variants.{On, Contradiction, Over}
-use Rattle.transitions.proofs.ConfigurationLaws.{HoldsPair, Room, Outcome, holds-placed}
-use Rattle.transitions.proofs.PlaceLaws.{ProgramPlaced, past-small, num-is, eqa-places, consp-places}
+use Rattle.configurations.specs.declared.configuration.Configuration.{Configuration as InCells}
+use Rattle.configurations.specs.declared.configuration.Moved.the-variants.{On, Contradiction, Over}
+use Rattle.configurations.proofs.ConfigurationLaws.{HoldsPair, Room, Outcome, holds-placed}
+use Rattle.configurations.proofs.PlaceLaws.{ProgramPlaced, past-small, num-is, eqa-places, consp-places}
 use Rattle.transitions.proofs.CallLaws.{definition-at, head-is, CallRoom, body-is, call-outcome}
 use Rattle.transitions.proofs.TransitionLaws.{Settled, settle, same-outcome, other-outcome, pair-outcome, atom-outcome, split-pair-outcome, split-atom-outcome}
 

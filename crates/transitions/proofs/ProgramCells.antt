@@ -7,9 +7,9 @@ use lib.ListN.{length, getD}
 use borrow.Author.Tests.{eqb-true, lt-ltb}
 use Rattle.language.specs.Tokens.{ofProgram, Token}
 use Rattle.language.specs.Source.{SExp, SProg}
-use Rattle.syntax.specs.Stored as stored
+use Rattle.grammar.specs.Stored as stored
 use Rattle.lexer.specs.Marks.{cellOf}
-use Rattle.syntax.specs.StoredAt.{keyAt, numAt}
+use Rattle.checker.specs.StoredAt.{keyAt, numAt}
 use Rattle.lexer.specs.Lexed.{State}
 use Rattle.syntax.specs.Ends.{pastAt, endsFrom}
 use Rattle.syntax.specs.Standing.{ExpAt, symbolAt, eAt, aAt, consAt}

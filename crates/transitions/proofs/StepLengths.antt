@@ -20,14 +20,14 @@ use Rattle.sets.specs.declared.counter.Handed.{Handed}
 use Rattle.sets.specs.declared.counter.Handed.the-variants.{Numbers, Spent}
 use Rattle.sets.specs.declared.contraction.Contraction.{Contraction as Coded}
 use Rattle.sets.specs.declared.contraction.Contraction.the-variants.{Identity, Contradiction as NoFilling, Bind, BindPair, NonEqual}
-use Rattle.sets.proofs.MeetingLengths.{copied-length, filled-length, renamed-length, bind-length}
+use Rattle.sets.proofs.Lengths.{copied-length, filled-length, renamed-length, bind-length}
 use Rattle.environments.specs.Storing.{storedEntry}
 use Rattle.environments.specs.EnvironmentCells.{startAt, endAt, updatedA, updatedAt, updatedE}
 use Rattle.environments.specs.ValueCells.{environment}
 use Rattle.environments.specs.ArgumentCells.{boundArguments}
-use Rattle.transitions.specs.ConfigurationCells.{withInputs, pastIndex, rightOf, trueOf, falseOf}
+use Rattle.configurations.specs.ConfigurationCells.{withInputs, pastIndex, rightOf, trueOf, falseOf}
 use Rattle.environments.specs.ContractionCells.{renamedValues, filledEntry, filledFrom, filledEntries}
-use Rattle.transitions.specs.ContractCells.{boundIfAtomic, boundRestriction, boundLeaf, inputsAnswer, afterInputs, filledInputs, afterEntries, behindInputs, filledConfiguration, copiedTable, copiedBack, boundPair, Stores, stores, MovedAnswer, contracted}
+use Rattle.configurations.specs.ContractCells.{boundIfAtomic, boundRestriction, boundLeaf, inputsAnswer, afterInputs, filledInputs, afterEntries, behindInputs, filledConfiguration, copiedTable, copiedBack, boundPair, Stores, stores, MovedAnswer, contracted}
 use Rattle.transitions.specs.TransitionCells.{advanced, NamesAnswer, afterName, boundNames, pairTaken, boundName, atomTaken, splitBound, withPair, withAtom, pairNumbers, pairSplit, atomNumbers, atomSplit}
 use Rattle.transitions.specs.CallCells.{CallAnswer, afterArguments, entered, calledIf, calledCells, headOf}
 use Rattle.transitions.specs.BranchCells.{trueTaken, falseTaken}
@@ -35,13 +35,13 @@ use Rattle.transitions.specs.StepCells.{isCall, behindCall, behindBranch
 use Rattle.environments.specs.declared.environment.Counts.{Counts}
 use Rattle.environments.specs.declared.environment.Bound.{Bound}
 use Rattle.environments.specs.declared.environment.Bound.the-variants.{Done as Now, Over as BoundOver}
-use Rattle.transitions.specs.declared.contract.Inputs.{Inputs}
-use Rattle.transitions.specs.declared.contract.Inputs.the-variants.{Done as InputsDone, Over as InputsOver}
-use Rattle.transitions.specs.declared.look.Look.{Look}
-use Rattle.transitions.specs.declared.look.Look.the-variants.{Result, Call, Same, Atom, Pair, Variable, Large}
-use Rattle.transitions.specs.declared.configuration.Configuration.{Configuration}
-use Rattle.transitions.specs.declared.configuration.Moved.{Moved}
-use Rattle.transitions.specs.declared.configuration.Moved.the-variants.{On, Contradiction, Over}
+use Rattle.configurations.specs.declared.contract.Inputs.{Inputs}
+use Rattle.configurations.specs.declared.contract.Inputs.the-variants.{Done as InputsDone, Over as InputsOver}
+use Rattle.configurations.specs.declared.look.Look.{Look}
+use Rattle.configurations.specs.declared.look.Look.the-variants.{Result, Call, Same, Atom, Pair, Variable, Large}
+use Rattle.configurations.specs.declared.configuration.Configuration.{Configuration}
+use Rattle.configurations.specs.declared.configuration.Moved.{Moved}
+use Rattle.configurations.specs.declared.configuration.Moved.the-variants.{On, Contradiction, Over}
 use Rattle.environments.proofs.StoreLengths.{entry-length, Kept, table-kept, cells-kept, updateE-kept}
 use Rattle.environments.proofs.ArgumentLengths.{arguments-kept}
 

@@ -3,12 +3,12 @@ use Prim.Native.Nat.{ℕ}
 use mathlib.Core.Path.{_≡_, refl}
 use mathlib.Core.Bool.{Bool, true, false}
 use mathlib.Core.List.{List}
-use Rattle.transitions.specs.ContractCells.{Stores, stores, MovedOut}
+use Rattle.configurations.specs.ContractCells.{Stores, stores, MovedOut}
 use Rattle.transitions.specs.BranchCells.{trueTaken, falseTaken}
 use Rattle.transitions.specs.StepCells.{isCall, SameStores, StepOut, stepped}
-use Rattle.transitions.specs.declared.look.Look.{Look}
-use Rattle.transitions.specs.declared.configuration.Configuration.{Configuration}
-use Rattle.transitions.specs.declared.configuration.Moved.{Moved}
+use Rattle.configurations.specs.declared.look.Look.{Look}
+use Rattle.configurations.specs.declared.configuration.Configuration.{Configuration}
+use Rattle.configurations.specs.declared.configuration.Moved.{Moved}
 
 pub same-stores : {s t : Stores} → SameStores s t → s ≡ t
 same-stores p = λ i. stores (p .0 i) (p .1 i) (p .2 i) (p .3 i) (p .4 i) (p .5 i) (p .6 i) (p .7 i)

@@ -25,18 +25,18 @@ use Rattle.semantics.specs.Environment.{update, updateE, updateA, mapValues}
 use Rattle.semantics.specs.Configuration.{ExpEnv, applyEnv, state, withEnv, nodesValues, nodesState}
 use Rattle.environments.specs.EnvironmentCells.{counted, updatedA, updatedE}
 use Rattle.environments.specs.ValueCells.{environment}
-use Rattle.transitions.specs.ConfigurationCells.{withCounts, placedAt, sizedOf, pastIndex, rightOf, trueOf, falseOf}
-use Rattle.transitions.specs.ContractCells.{Stores, stores, MovedAnswer, movedAnswer}
+use Rattle.configurations.specs.ConfigurationCells.{withCounts, placedAt, sizedOf, pastIndex, rightOf, trueOf, falseOf}
+use Rattle.configurations.specs.ContractCells.{Stores, stores, MovedAnswer, movedAnswer}
 use Rattle.transitions.specs.TransitionCells.{advanced, sameTaken, otherTaken, NamesAnswer, boundNames, pairTaken, NameAnswer, boundName, atomTaken, withPair, withAtom, pairSplit, atomSplit}
 use Rattle.environments.specs.declared.environment.Counts.{Counts}
 use Rattle.environments.specs.declared.environment.Bound.the-variants.{Done as Now, Over as BoundOver}
-use Rattle.transitions.specs.declared.configuration.Configuration.{Configuration}
-use Rattle.transitions.specs.declared.configuration.Moved.the-variants.{On, Contradiction, Over}
-use Rattle.transitions.proofs.ConfigurationLaws.{HoldsPair, Room, FillRoom, Arrived, Outcome, holds-cells, holds-atoms, holds-placed, sized-on, sized-over}
+use Rattle.configurations.specs.declared.configuration.Configuration.{Configuration}
+use Rattle.configurations.specs.declared.configuration.Moved.the-variants.{On, Contradiction, Over}
+use Rattle.configurations.proofs.ConfigurationLaws.{HoldsPair, Room, FillRoom, Arrived, Outcome, holds-cells, holds-atoms, holds-placed, sized-on, sized-over}
 use Rattle.transitions.proofs.ContractLaws.{contracts-outcome, equality-contracts, nonEqual-contracts, pair-contracts, atom-contracts}
 use Rattle.environments.proofs.ContractionEnvironment.{map-length}
 use Rattle.environments.proofs.CellEnvironments.{values-nodes, updateA-environment, updateE-environment, updateE-too-many}
-use Rattle.transitions.proofs.CopyLaws.{nodes-positive, names-nodes}
+use Rattle.configurations.proofs.CopyLaws.{nodes-positive, names-nodes}
 use Rattle.environments.proofs.EnvironmentLaws.{valueCells, names}
 use Rattle.environments.proofs.StoreLengths.{updateE-kept}
 use Rattle.transitions.proofs.TransitionTurns.{pair-over, pair-on, atom-on}

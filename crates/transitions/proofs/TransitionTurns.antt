@@ -12,14 +12,14 @@ use Rattle.sets.specs.declared.contraction.Contraction.{Contraction as Coded}
 use Rattle.sets.specs.declared.counter.Fresh.{Fresh}
 use Rattle.sets.specs.declared.counter.Handed.the-variants.{Numbers}
 use Rattle.environments.specs.ValueCells.{keyCell}
-use Rattle.transitions.specs.ConfigurationCells.{withCounts, placedAt, rightOf, trueOf, falseOf}
-use Rattle.transitions.specs.ContractCells.{Stores, stores, MovedAnswer, movedAnswer}
+use Rattle.configurations.specs.ConfigurationCells.{withCounts, placedAt, rightOf, trueOf, falseOf}
+use Rattle.configurations.specs.ContractCells.{Stores, stores, MovedAnswer, movedAnswer}
 use Rattle.transitions.specs.TransitionCells.{advanced, NamesOut, boundNames, NameOut, boundName, pairSplit, atomSplit}
 use Rattle.environments.specs.declared.environment.Counts.{Counts}
 use Rattle.environments.specs.declared.environment.Bound.{Bound}
 use Rattle.environments.specs.declared.environment.Bound.the-variants.{Done as Now, Over as BoundOver}
-use Rattle.transitions.specs.declared.configuration.Configuration.{Configuration}
-use Rattle.transitions.specs.declared.configuration.Moved.the-variants.{Over}
+use Rattle.configurations.specs.declared.configuration.Configuration.{Configuration}
+use Rattle.configurations.specs.declared.configuration.Moved.the-variants.{Over}
 use Rattle.transitions.specs.CallCells.{headFrom, closingFrom}
 
 module _ (nums heads : List ℕ) (x n j : ℕ) where

@@ -1,12 +1,12 @@
 -- One branch of a condition in cells: what each function of take.rt answers and leaves.
 use Prim.Native.Nat.{ℕ}
 use mathlib.Core.List.{List}
-use Rattle.transitions.specs.ContractCells.{Stores, stores, MovedAnswer, movedAnswer}
+use Rattle.configurations.specs.ContractCells.{Stores, stores, MovedAnswer, movedAnswer}
 use Rattle.transitions.specs.TransitionCells.{sameTaken, otherTaken, PairAnswer, pairTaken, AtomAnswer, atomTaken, pairSplit, atomSplit}
-use Rattle.transitions.specs.declared.look.Look.{Look}
-use Rattle.transitions.specs.declared.look.Look.the-variants.{Result, Call, Same, Atom, Pair, Variable, Large}
-use Rattle.transitions.specs.declared.configuration.Configuration.{Configuration}
-use Rattle.transitions.specs.declared.configuration.Moved.the-variants.{Contradiction, Over}
+use Rattle.configurations.specs.declared.look.Look.{Look}
+use Rattle.configurations.specs.declared.look.Look.the-variants.{Result, Call, Same, Atom, Pair, Variable, Large}
+use Rattle.configurations.specs.declared.configuration.Configuration.{Configuration}
+use Rattle.configurations.specs.declared.configuration.Moved.the-variants.{Contradiction, Over}
 
 abbrev pub withPairTaken : Stores → PairAnswer → MovedAnswer
 withPairTaken s w = movedAnswer (w .moved) (stores (s .io) (w .ev) (w .et) (s .av) (s .q) (s .io2) (w .ev2) (w .et2))

@@ -8,14 +8,14 @@ use lib.ListN.{length, getD}
 use Rattle.sets.specs.Cells.{copied}
 use Rattle.environments.specs.ValueCells.{CellEnv, environment, keyCell}
 use Rattle.environments.specs.ArgumentCells.{boundArguments}
-use Rattle.transitions.specs.ConfigurationCells.{withCounts, placedAt, sizedOf, pastIndex}
-use Rattle.transitions.specs.ContractCells.{copiedTable}
+use Rattle.configurations.specs.ConfigurationCells.{withCounts, placedAt, sizedOf, pastIndex}
+use Rattle.configurations.specs.ContractCells.{copiedTable}
 use Rattle.environments.specs.declared.environment.Counts.{Counts}
 use Rattle.environments.specs.declared.environment.Bound.{Bound}
 use Rattle.environments.specs.declared.environment.Bound.the-variants.{Done as Now, Over as BoundOver}
-use Rattle.transitions.specs.declared.configuration.Configuration.{Configuration}
-use Rattle.transitions.specs.declared.configuration.Moved.{Moved}
-use Rattle.transitions.specs.declared.configuration.Moved.the-variants.{On, Contradiction, Over}
+use Rattle.configurations.specs.declared.configuration.Configuration.{Configuration}
+use Rattle.configurations.specs.declared.configuration.Moved.{Moved}
+use Rattle.configurations.specs.declared.configuration.Moved.the-variants.{On, Contradiction, Over}
 
 -- `left` definitions from the j-th on
 unfoldable pub headFrom : List ℕ → List ℕ → ℕ → ℕ → ℕ → ℕ

@@ -12,9 +12,9 @@ use Rattle.sets.specs.declared.restriction.Restricted.{Restricted}
 use Rattle.sets.specs.declared.restriction.Restricted.the-variants.{Kept, Contradiction, Full}
 use Rattle.sets.specs.declared.contraction.Contraction.{Contraction as Coded}
 use Rattle.sets.specs.declared.contraction.Contraction.the-variants.{Identity, Contradiction as NoFilling, Bind, BindPair, NonEqual}
-use Rattle.transitions.specs.ContractCells.{copiedTable}
-use Rattle.transitions.specs.declared.look.Look.{Look}
-use Rattle.transitions.specs.declared.look.Look.the-variants.{Result, Call, Same, Atom, Pair, Variable, Large}
+use Rattle.configurations.specs.ContractCells.{copiedTable}
+use Rattle.configurations.specs.declared.look.Look.{Look}
+use Rattle.configurations.specs.declared.look.Look.the-variants.{Result, Call, Same, Atom, Pair, Variable, Large}
 use Rattle.transitions.specs.declared.contradiction.Branches.{Branches}
 
 pub record TestAnswer : Type 0 where

@@ -1,10 +1,5 @@
-pub mod ConfigurationCells
-pub mod ContractCells
-pub mod LookCells
 pub mod CallCells
 pub mod TransitionCells
 pub mod ContradictionCells
 pub mod BranchCells
-pub mod DatumCells
-pub mod StartCells
 pub mod StepCells

@@ -4,13 +4,13 @@ use mathlib.Core.Path.{_≡_}
 use mathlib.Core.Bool.{Bool, true, false, cond}
 use mathlib.Core.List.{List}
 use Rattle.environments.specs.ValueCells.{CellEnv, environment}
-use Rattle.transitions.specs.ContractCells.{Stores, stores, MovedAnswer}
+use Rattle.configurations.specs.ContractCells.{Stores, stores, MovedAnswer}
 use Rattle.transitions.specs.CallCells.{CallAnswer, calledCells}
 use Rattle.transitions.specs.BranchCells.{trueTaken, falseTaken}
-use Rattle.transitions.specs.declared.look.Look.{Look}
-use Rattle.transitions.specs.declared.look.Look.the-variants.{Result, Call, Same, Atom, Pair, Variable, Large}
-use Rattle.transitions.specs.declared.configuration.Configuration.{Configuration}
-use Rattle.transitions.specs.declared.configuration.Moved.{Moved}
+use Rattle.configurations.specs.declared.look.Look.{Look}
+use Rattle.configurations.specs.declared.look.Look.the-variants.{Result, Call, Same, Atom, Pair, Variable, Large}
+use Rattle.configurations.specs.declared.configuration.Configuration.{Configuration}
+use Rattle.configurations.specs.declared.configuration.Moved.{Moved}
 
 abbrev pub isCall : Look → Bool
 isCall Call = true

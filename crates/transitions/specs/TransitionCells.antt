@@ -14,14 +14,14 @@ use Rattle.sets.specs.declared.counter.Handed.{Handed}
 use Rattle.sets.specs.declared.counter.Handed.the-variants.{Numbers, Spent}
 use Rattle.sets.specs.declared.contraction.Contraction.{Contraction as Coded}
 use Rattle.environments.specs.EnvironmentCells.{counted, updatedA, updatedE}
-use Rattle.transitions.specs.ConfigurationCells.{withCounts, placedAt, sizedOf, pastIndex, rightOf, trueOf, falseOf}
-use Rattle.transitions.specs.ContractCells.{Stores, stores, MovedAnswer, movedAnswer, contracted}
+use Rattle.configurations.specs.ConfigurationCells.{withCounts, placedAt, sizedOf, pastIndex, rightOf, trueOf, falseOf}
+use Rattle.configurations.specs.ContractCells.{Stores, stores, MovedAnswer, movedAnswer, contracted}
 use Rattle.environments.specs.declared.environment.Counts.{Counts}
 use Rattle.environments.specs.declared.environment.Bound.{Bound}
 use Rattle.environments.specs.declared.environment.Bound.the-variants.{Done as Now, Over as BoundOver}
-use Rattle.transitions.specs.declared.configuration.Configuration.{Configuration}
-use Rattle.transitions.specs.declared.configuration.Moved.{Moved}
-use Rattle.transitions.specs.declared.configuration.Moved.the-variants.{On, Contradiction, Over}
+use Rattle.configurations.specs.declared.configuration.Configuration.{Configuration}
+use Rattle.configurations.specs.declared.configuration.Moved.{Moved}
+use Rattle.configurations.specs.declared.configuration.Moved.the-variants.{On, Contradiction, Over}
 
 abbrev pub afterContraction : Moved → Moved
 afterContraction (On c) = sizedOf c

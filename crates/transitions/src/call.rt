@@ -1,8 +1,8 @@
 // A call: "the arguments are valued in the old environment; next is F's body in a fresh one".
-use crate::configuration;
-use crate::configuration::Configuration;
-use crate::configuration::Moved;
-use crate::contract;
+use configurations::configuration;
+use configurations::configuration::Configuration;
+use configurations::configuration::Moved;
+use configurations::contract;
 use environments::arguments;
 use environments::environment::Bound;
 use environments::environment::Counts;
@@ -10,9 +10,9 @@ use environments::store;
 use environments::value;
 use lexer::keys::CLOSE_LIST;
 use sets::cell;
-use sets::intersection;
+use unification::intersection;
 ghost use mathlib.Core.Path.{_≡_};
-ghost use Rattle.transitions.specs.ContractCells.{copiedTable};
+ghost use Rattle.configurations.specs.ContractCells.{copiedTable};
 ghost use Rattle.transitions.specs.CallCells.{headOf, calleeOf, closing, bodyOf, copiedCells, CalledOut, entered, calledCells};
 
 // The index of the token that names the first of `count` definitions with this name; 0, where no definition's name stands, if

@@ -1,6 +1,6 @@
 // Whether a contraction contradicts, before it is applied: "A branch that contradicts is no transition", nor is it counted.
-use crate::contract;
-use crate::look::Look;
+use configurations::contract;
+use configurations::look::Look;
 use sets::contraction;
 use sets::contraction::Contraction;
 use sets::restriction;

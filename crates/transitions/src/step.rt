@@ -1,12 +1,12 @@
 // One transition of figure 10 (001) over cells: a call, or one branch of a condition.
 use crate::call;
-use crate::configuration::Configuration;
-use crate::configuration::Moved;
-use crate::look::Look;
 use crate::take;
+use configurations::configuration::Configuration;
+use configurations::configuration::Moved;
+use configurations::look::Look;
 ghost use mathlib.Core.Path.{_≡_};
 ghost use mathlib.Core.Bool.{Bool};
-ghost use Rattle.transitions.specs.ContractCells.{stores};
+ghost use Rattle.configurations.specs.ContractCells.{stores};
 ghost use Rattle.transitions.specs.StepCells.{isCall, stepped};
 
 pub fn is_call(look: Look) -> bool

@@ -1,15 +1,15 @@
 // One branch of a condition, by what its term asks: one engine for the runner and the walk.
-use crate::configuration::Configuration;
-use crate::configuration::Moved;
-use crate::look::Look;
 use crate::transition::split_atom;
 use crate::transition::split_pair;
 use crate::transition::take_atom;
 use crate::transition::take_other;
 use crate::transition::take_pair;
 use crate::transition::take_same;
+use configurations::configuration::Configuration;
+use configurations::configuration::Moved;
+use configurations::look::Look;
 ghost use mathlib.Core.Path.{_≡_};
-ghost use Rattle.transitions.specs.ContractCells.{stores};
+ghost use Rattle.configurations.specs.ContractCells.{stores};
 ghost use Rattle.transitions.specs.BranchCells.{trueTaken, falseTaken};
 
 // The true branch; a contradiction where there is none.

@@ -1,9 +1,9 @@
 // The transitions behind a condition (001, figure 10): "true branch first". Each leaves the new configuration in the storages.
-use crate::branch;
-use crate::configuration;
-use crate::configuration::Configuration;
-use crate::configuration::Moved;
-use crate::contract;
+use configurations::branch;
+use configurations::configuration;
+use configurations::configuration::Configuration;
+use configurations::configuration::Moved;
+use configurations::contract;
 use environments::environment;
 use environments::environment::Bound;
 use environments::environment::Counts;
@@ -12,9 +12,9 @@ use sets::contraction;
 use sets::contraction::Contraction;
 use sets::counter::Handed;
 use sets::fill::Filled;
-use sets::intersection;
+use unification::intersection;
 ghost use mathlib.Core.Path.{_≡_};
-ghost use Rattle.transitions.specs.ContractCells.{stores, MovedOut};
+ghost use Rattle.configurations.specs.ContractCells.{stores, MovedOut};
 ghost use Rattle.transitions.specs.TransitionCells.{advanced, sameTaken, otherTaken, boundNames, PairOut, pairTaken, boundName, AtomOut, atomTaken, pairSplit, atomSplit};
 
 // Between two bindings an environment has at most 4,096 cells and those of the new value: it may be over, and what follows not.

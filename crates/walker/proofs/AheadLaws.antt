@@ -11,7 +11,7 @@ use borrow.Author.Tests.{leb-true}
 use Rattle.sets.specs.Contracting.{splitAtomicCodes}
 use Rattle.sets.specs.declared.contraction.Contraction.{Contraction as Coded}
 use Rattle.sets.specs.declared.contraction.Contraction.the-variants.{Identity, Contradiction as NoFilling, Bind, BindPair, NonEqual}
-use Rattle.sets.proofs.MeetingLengths.{copied-length, bind-length}
+use Rattle.sets.proofs.Lengths.{copied-length, bind-length}
 use Rattle.language.specs.Program.{Term, Prog, find}
 use Rattle.language.specs.Tokens.{Token}
 use Rattle.syntax.specs.Standing.{WordAt}
@@ -20,15 +20,15 @@ use Rattle.semantics.specs.Configuration.{Configuration}
 use Rattle.semantics.specs.Trace.{called, branches, successors}
 use Rattle.semantics.specs.Tree.{Node}
 use Rattle.semantics.specs.Backtrack.{Choice}
-use Rattle.transitions.specs.ConfigurationCells.{pastIndex}
-use Rattle.transitions.specs.ContractCells.{copiedTable, Stores}
+use Rattle.configurations.specs.ConfigurationCells.{pastIndex}
+use Rattle.configurations.specs.ContractCells.{copiedTable, Stores}
 use Rattle.transitions.specs.ContradictionCells.{bindingIfAtomic, bindingTested, contradictionTested, sameTested, branchesTested}
 use Rattle.paths.specs.TrailCells.{choiceCell}
 use Rattle.paths.specs.SavedCells.{capped, sizeOf, saveAnswer, entryStored, savedCells}
-use Rattle.transitions.specs.declared.configuration.Configuration.{Configuration as InCells}
-use Rattle.transitions.specs.declared.look.Look.{Look}
-use Rattle.transitions.specs.declared.look.Look.the-variants.{Result, Call, Same, Atom, Pair, Variable, Large}
-use Rattle.transitions.proofs.PlaceLaws.{ProgramPlaced, exp-below}
+use Rattle.configurations.specs.declared.configuration.Configuration.{Configuration as InCells}
+use Rattle.configurations.specs.declared.look.Look.{Look}
+use Rattle.configurations.specs.declared.look.Look.the-variants.{Result, Call, Same, Atom, Pair, Variable, Large}
+use Rattle.configurations.proofs.PlaceLaws.{ProgramPlaced, exp-below}
 use Rattle.transitions.proofs.EngineLaws.{TermHeld, starts, stands, DefinitionsIn}
 use Rattle.paths.proofs.TrailLaws.{PathHeld, path-pushed}
 use Rattle.paths.proofs.SavedLaws.{held-counted, entryAfter, entryRest, entry-parts, entry-stored, entry-top}

@@ -5,11 +5,11 @@ use mathlib.Core.List.{List}
 use lib.ListN.{replicate}
 use Rattle.syntax.specs.declared.job_ends.JobEnds.{JobEnds}
 use Rattle.syntax.specs.declared.numerals.Numerals.{Numerals}
-use Rattle.transitions.specs.StartCells.{StartAnswer, StartOut, started, configured}
-use Rattle.transitions.specs.declared.configuration.Configuration.{Configuration as InCells}
-use Rattle.transitions.specs.declared.start.Begun.{Begun}
-use Rattle.transitions.specs.declared.start.Started.{Started}
-use Rattle.transitions.specs.declared.start.Started.the-variants.{On, None, Over as StartedOver}
+use Rattle.starts.specs.StartCells.{StartAnswer, StartOut, started, configured}
+use Rattle.configurations.specs.declared.configuration.Configuration.{Configuration as InCells}
+use Rattle.starts.specs.declared.start.Begun.{Begun}
+use Rattle.starts.specs.declared.start.Started.{Started}
+use Rattle.starts.specs.declared.start.Started.the-variants.{On, None, Over as StartedOver}
 use Rattle.expansion.specs.PlanCells.{walked, nothingFound}
 use Rattle.walker.specs.WalkCells.{WalkedAnswer, WalkedOut, walkedStart}
 use Rattle.walker.specs.JobCells.{firstStores, walkBegun, onStarted, walkJob}

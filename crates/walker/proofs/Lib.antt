@@ -1,4 +1,3 @@
-pub mod AheadTurns
 pub mod WalkTurns
 pub mod WalkLengths
 pub mod SuccessorLaws

@@ -21,9 +21,9 @@ use Rattle.semantics.specs.Backtrack.{Choice, trailOf, PathState, onPath, withT
 use Rattle.semantics.proofs.Paths.{trail-length}
 use Rattle.semantics.proofs.Soundness.{Small}
 use Rattle.semantics.proofs.Reaching.{Reaches, here, byCall, byDecision, reaches-call, reaches-decision, reaches-steps}
-use Rattle.transitions.specs.ConfigurationCells.{pastIndex}
-use Rattle.transitions.specs.ContractCells.{Stores, stores}
-use Rattle.transitions.specs.LookCells.{LookAnswer, lookTerm}
+use Rattle.configurations.specs.ConfigurationCells.{pastIndex}
+use Rattle.configurations.specs.ContractCells.{Stores, stores}
+use Rattle.configurations.specs.LookCells.{LookAnswer, lookTerm}
 use Rattle.transitions.specs.ContradictionCells.{branchesTested}
 use Rattle.transitions.specs.StepCells.{cellsOf, stepped}
 use Rattle.lines.specs.LineCells.{answerRoom}
@@ -31,15 +31,15 @@ use Rattle.lines.specs.EndCells.{MeetAnswer, metEnd}
 use Rattle.paths.specs.SavedCells.{savedCells}
 use Rattle.expansion.specs.PlanCells.{isResult, walked, chosen, cutAt, withLines, chooseBy, chooseCells, PlanAnswer, behindMeeting, behindChoice, planned}
 use Rattle.expansion.specs.PlanCells as cells
-use Rattle.transitions.specs.declared.look.Look.{Look}
-use Rattle.transitions.specs.declared.configuration.Configuration.{Configuration as InCells}
+use Rattle.configurations.specs.declared.look.Look.{Look}
+use Rattle.configurations.specs.declared.configuration.Configuration.{Configuration as InCells}
 use Rattle.expansion.specs.declared.found.Found.{Found}
 use Rattle.expansion.specs.declared.plan.Position.{Position}
 use Rattle.expansion.specs.declared.plan.Bounds.{Bounds}
 use Rattle.expansion.specs.declared.found.Ending.{Ending}
 use Rattle.expansion.specs.declared.found.Ending.the-variants.{Over, Full, Spent}
 use Rattle.expansion.specs.declared.plan.Plan.the-variants.{Take, Back, Stop as Stopped}
-use Rattle.transitions.proofs.PlaceLaws.{ProgramPlaced}
+use Rattle.configurations.proofs.PlaceLaws.{ProgramPlaced}
 use Rattle.transitions.proofs.EngineLaws.{Leads, DefinitionsIn}
 use Rattle.transitions.proofs.ContradictionLaws.{isNone}
 use Rattle.lines.proofs.LineLaws.{LinesHeld}

@@ -16,19 +16,19 @@ use Rattle.semantics.specs.Tree.{Node, root, afterCall, afterDecision}
 use Rattle.semantics.specs.Backtrack.{Choice, trailOf, backtrackTo, backtrack}
 use Rattle.semantics.proofs.Soundness.{Sound}
 use Rattle.semantics.proofs.Reaching.{branchOf, Reaches, here, byCall, byDecision, reaches-steps}
-use Rattle.transitions.specs.ConfigurationCells.{pastIndex}
-use Rattle.transitions.specs.ContractCells.{Stores}
-use Rattle.transitions.specs.LookCells.{LookAnswer, lookTerm}
+use Rattle.configurations.specs.ConfigurationCells.{pastIndex}
+use Rattle.configurations.specs.ContractCells.{Stores}
+use Rattle.configurations.specs.LookCells.{LookAnswer, lookTerm}
 use Rattle.transitions.specs.StepCells.{isCall, SteppedAnswer, cellsOf, stepped}
 use Rattle.paths.specs.TrailCells.{takenAt}
 use Rattle.paths.specs.SavedCells.{LoadAnswer}
 use Rattle.paths.specs.ReplayCells.{Working, working, traced, isThere, followStep, TraceAnswer, traceAnswer, followFrom, followed, loadedWorking, loadAt, BringAnswer, broughtBack}
-use Rattle.transitions.specs.declared.configuration.Configuration.{Configuration as InCells}
-use Rattle.transitions.specs.declared.configuration.Moved.the-variants.{On}
+use Rattle.configurations.specs.declared.configuration.Configuration.{Configuration as InCells}
+use Rattle.configurations.specs.declared.configuration.Moved.the-variants.{On}
 use Rattle.paths.specs.declared.replay.Trace.{Trace}
-use Rattle.transitions.proofs.PlaceLaws.{ProgramPlaced}
+use Rattle.configurations.proofs.PlaceLaws.{ProgramPlaced}
 use Rattle.transitions.proofs.EngineLaws.{term-later, TermHeld, Leads, DefinitionsIn}
-use Rattle.runner.proofs.StepLaws.{look-kept}
+use Rattle.configurations.proofs.LookLengths.{look-kept}
 use Rattle.transitions.proofs.StepLengths.{step-kept}
 use Rattle.paths.proofs.TrailLaws.{Takes, PathHeld, path-takes, path-shorter, trail-length}
 use Rattle.paths.proofs.SavedTurns.{loaded-lengths}

@@ -19,19 +19,19 @@ use Rattle.syntax.specs.Placed.{TermIn}
 use Rattle.semantics.proofs.Soundness.{Sound}
 use Rattle.semantics.specs.Configuration.{substOfEnv, state, nodesState, Configuration}
 use Rattle.semantics.specs.Trace.{Successors, terminal, called, branches, configuration, tracePair, successorsOf, successors}
-use Rattle.transitions.specs.ContractCells.{Stores, stores, MovedAnswer, movedAnswer}
-use Rattle.transitions.specs.LookCells.{LookAnswer, lookAnswer, lookTerm}
+use Rattle.configurations.specs.ContractCells.{Stores, stores, MovedAnswer, movedAnswer}
+use Rattle.configurations.specs.LookCells.{LookAnswer, lookAnswer, lookTerm}
 use Rattle.transitions.specs.ContradictionCells.{branchesTested}
 use Rattle.transitions.specs.StepCells.{isCall, SteppedAnswer, cellsOf, stepped}
 use Rattle.transitions.specs.BranchCells.{trueTaken, falseTaken}
 use Rattle.expansion.specs.PlanCells.{isResult}
-use Rattle.transitions.specs.declared.look.Look.the-variants.{Result, Call}
-use Rattle.transitions.specs.declared.configuration.Configuration.{Configuration as InCells}
-use Rattle.transitions.proofs.CopyLaws.{nodes-positive}
-use Rattle.transitions.proofs.ConfigurationLaws.{Room}
-use Rattle.transitions.proofs.PlaceLaws.{ProgramPlaced}
+use Rattle.configurations.specs.declared.look.Look.the-variants.{Result, Call}
+use Rattle.configurations.specs.declared.configuration.Configuration.{Configuration as InCells}
+use Rattle.configurations.proofs.CopyLaws.{nodes-positive}
+use Rattle.configurations.proofs.ConfigurationLaws.{Room}
+use Rattle.configurations.proofs.PlaceLaws.{ProgramPlaced}
 use Rattle.transitions.proofs.CallLaws.{CallRoom}
-use Rattle.transitions.proofs.LookLaws.{Tested, atom, variable, parts, large, look-start, look-result, look-call, look-eqa, look-consp}
+use Rattle.configurations.proofs.LookLaws.{Tested, atom, variable, parts, large, look-start, look-result, look-call, look-eqa, look-consp}
 use Rattle.transitions.proofs.EngineLaws.{term-later, TermHeld, starts, stands, HoldsConfiguration, Leads, DefinitionsIn, same-leads, other-leads, call-leads, start-leads}
 use Rattle.transitions.proofs.BranchLaws.{consp-lead}
 use Rattle.transitions.proofs.ContradictionLaws.{isNone, branches-same}

@@ -19,20 +19,20 @@ use Rattle.semantics.specs.Walk.{stateOver, meetingOver, Limits, Stop, stop21, 
 use Rattle.semantics.specs.Backtrack.{Choice, trailOf, replay, PathState, onPath, withTodo, withPath, Turn, ahead, exhausted, halted, afterEnd, choose, extend, extendUnless, backtrack, aheadIf, replayPath, orBack, turn, walkBack, walkBackFrom, walkedOf}
 use Rattle.semantics.proofs.Soundness.{Small, Sound}
 use Rattle.semantics.proofs.Reaching.{Reaches, here, reaches-decision, reaches-steps, reaches-good, reaches-replay}
-use Rattle.transitions.specs.ConfigurationCells.{pastIndex}
-use Rattle.transitions.specs.ContractCells.{Stores, stores}
-use Rattle.transitions.specs.LookCells.{LookAnswer, lookTerm}
+use Rattle.configurations.specs.ConfigurationCells.{pastIndex}
+use Rattle.configurations.specs.ContractCells.{Stores, stores}
+use Rattle.configurations.specs.LookCells.{LookAnswer, lookTerm}
 use Rattle.transitions.specs.StepCells.{SteppedAnswer, cellsOf, stepped}
 use Rattle.lines.specs.LineCells.{answerRoom}
 use Rattle.paths.specs.SavedCells.{sizeOf, savedCells}
 use Rattle.paths.specs.TrailCells.{latestPending, backtrackAnswer, backtracked}
 use Rattle.paths.specs.ReplayCells.{Working, working, BringAnswer, broughtBack}
 use Rattle.expansion.specs.PlanCells.{walked, PlanAnswer, planned}
-use Rattle.walker.specs.AheadCells.{positionAt, lookedBack, wentBack, WalkStores, walkStores, NextAnswer, behindBack, afterPlan, nextPlanned}
+use Rattle.backtracking.specs.AheadCells.{positionAt, lookedBack, wentBack, WalkStores, walkStores, NextAnswer, behindBack, afterPlan, nextPlanned}
 use Rattle.walker.specs.WalkCells.{counted, made, walkTurn, WalkedAnswer, walkedFrom, walkedOn}
-use Rattle.transitions.specs.declared.look.Look.{Look}
-use Rattle.transitions.specs.declared.configuration.Configuration.{Configuration as InCells}
-use Rattle.transitions.specs.declared.configuration.Moved.the-variants.{Over as MovedOver}
+use Rattle.configurations.specs.declared.look.Look.{Look}
+use Rattle.configurations.specs.declared.configuration.Configuration.{Configuration as InCells}
+use Rattle.configurations.specs.declared.configuration.Moved.the-variants.{Over as MovedOver}
 use Rattle.lines.specs.declared.line.Lines.{Lines}
 use Rattle.expansion.specs.declared.found.Found.{Found}
 use Rattle.expansion.specs.declared.plan.Position.{Position}
@@ -41,9 +41,9 @@ use Rattle.expansion.specs.declared.found.Ending.{Ending}
 use Rattle.expansion.specs.declared.found.Ending.the-variants.{Done, Spent}
 use Rattle.expansion.specs.declared.found.Walked.{Walked as Came}
 use Rattle.expansion.specs.declared.plan.Plan.the-variants.{Take, Stop as Stopped}
-use Rattle.transitions.proofs.PlaceLaws.{ProgramPlaced}
+use Rattle.configurations.proofs.PlaceLaws.{ProgramPlaced}
 use Rattle.transitions.proofs.EngineLaws.{DefinitionsIn}
-use Rattle.transitions.proofs.ConfigurationLaws.{HoldsPair}
+use Rattle.configurations.proofs.ConfigurationLaws.{HoldsPair}
 use Rattle.lines.proofs.LineLaws.{LinesHeld}
 use Rattle.paths.proofs.SavedLaws.{held-counted, size-small, entryAfter, entry-stored, entry-top}
 use Rattle.paths.proofs.TrailLaws.{PathHeld, Backed, spent, turned, backs, backtrack-ended, backtrack-held}

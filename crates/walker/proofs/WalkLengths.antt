@@ -5,16 +5,16 @@ use mathlib.Core.Bool.{Bool, true, false, cond}
 use mathlib.Core.List.{List}
 use lib.Dec.{leb, ltb}
 use lib.ListN.{length}
-use Rattle.transitions.specs.ConfigurationCells.{nodesOf}
-use Rattle.transitions.specs.ContractCells.{Stores}
-use Rattle.transitions.specs.LookCells.{lookTerm}
-use Rattle.transitions.specs.declared.configuration.Configuration.{Configuration}
+use Rattle.configurations.specs.ConfigurationCells.{nodesOf}
+use Rattle.configurations.specs.ContractCells.{Stores}
+use Rattle.configurations.specs.LookCells.{lookTerm}
+use Rattle.configurations.specs.declared.configuration.Configuration.{Configuration}
 use Rattle.transitions.specs.StepCells.{isCall, cellsOf}
 use Rattle.lines.specs.EndCells.{metEnd}
 use Rattle.paths.specs.SavedCells.{savedCells}
 use Rattle.paths.specs.ReplayCells.{working}
 use Rattle.expansion.specs.PlanCells.{isResult, walked, cutAt, chooseCells, PlanAnswer, planAnswer, behindMeeting, behindChoice, planned, nothingFound}
-use Rattle.walker.specs.AheadCells.{WalkStores, walkStores, afterPlan, nextPlanned}
+use Rattle.backtracking.specs.AheadCells.{WalkStores, walkStores, afterPlan, nextPlanned}
 use Rattle.walker.specs.WalkCells.{afterNext, walkTurn, WalkedAnswer, walkedAnswer, afterTurn, walkedFrom, walkedOn, firstPosition, boundsOf, behindStart, walkedStart}
 use Rattle.expansion.specs.declared.plan.Position.{Position}
 use Rattle.expansion.specs.declared.plan.Bounds.{Bounds}

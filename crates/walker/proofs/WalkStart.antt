@@ -17,18 +17,18 @@ use Rattle.semantics.specs.Walk.{Limits}
 use Rattle.semantics.specs.Backtrack.{walkBackFrom, walkedOf}
 use Rattle.semantics.proofs.Soundness.{Small, Sound}
 use Rattle.semantics.proofs.Reaching.{Reaches}
-use Rattle.transitions.specs.ConfigurationCells.{nodesOf}
-use Rattle.transitions.specs.ContractCells.{Stores}
+use Rattle.configurations.specs.ConfigurationCells.{nodesOf}
+use Rattle.configurations.specs.ContractCells.{Stores}
 use Rattle.lines.specs.LineCells.{answerRoom}
 use Rattle.paths.specs.SavedCells.{savedCells}
 use Rattle.expansion.specs.PlanCells.{walked, nothingFound}
-use Rattle.walker.specs.AheadCells.{WalkStores, walkStores}
+use Rattle.backtracking.specs.AheadCells.{WalkStores, walkStores}
 use Rattle.walker.specs.WalkCells.{walkedAnswer, firstPosition, boundsOf, behindStart, walkedStart}
-use Rattle.transitions.specs.declared.configuration.Configuration.{Configuration as InCells}
+use Rattle.configurations.specs.declared.configuration.Configuration.{Configuration as InCells}
 use Rattle.expansion.specs.declared.found.Ending.the-variants.{Over}
-use Rattle.transitions.proofs.PlaceLaws.{ProgramPlaced}
+use Rattle.configurations.proofs.PlaceLaws.{ProgramPlaced}
 use Rattle.transitions.proofs.EngineLaws.{DefinitionsIn}
-use Rattle.transitions.proofs.ConfigurationLaws.{HoldsPair, holds-cells, holds-atoms}
+use Rattle.configurations.proofs.ConfigurationLaws.{HoldsPair, holds-cells, holds-atoms}
 use Rattle.lines.proofs.LineLaws.{LinesHeld}
 use Rattle.paths.proofs.SavedLaws.{held-counted}
 use Rattle.walker.proofs.SuccessorLaws.{WalkRoom}

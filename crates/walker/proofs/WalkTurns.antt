@@ -9,19 +9,19 @@ use lib.Dec.{ltb}
 use borrow.Author.Tests.{le-leb, lt-leb}
 use types.Run.{OneOf}
 use denote.Enum.Declared.{tagOf}
-use Rattle.transitions.specs.ConfigurationCells.{nodesOf, sizedOf, pastIndex}
-use Rattle.transitions.specs.ContractCells.{Stores, stores}
+use Rattle.configurations.specs.ConfigurationCells.{nodesOf, sizedOf, pastIndex}
+use Rattle.configurations.specs.ContractCells.{Stores, stores}
 use Rattle.paths.specs.SavedCells.{SaveOut, savedCells}
 use Rattle.transitions.specs.StepCells.{StepOut, stepped}
 use Rattle.paths.specs.ReplayCells.{working}
 use Rattle.expansion.specs.PlanCells.{walked, nothingFound}
-use Rattle.walker.specs.AheadCells.{WalkStores, walkStores, SameWalk, NextAnswer, NextOut, nextPlanned}
+use Rattle.backtracking.specs.AheadCells.{WalkStores, walkStores, SameWalk, NextAnswer, NextOut, nextPlanned}
 use Rattle.walker.specs.WalkCells.{counted, afterMove, MadeOut, made, TurnOut, walkTurn, walkedAnswer, WalkedOut, walkedFrom, walkedOn, firstPosition, walkedStart}
-use Rattle.transitions.specs.declared.look.Look.{Look}
-use Rattle.transitions.specs.declared.configuration.Configuration.{Configuration}
-use Rattle.transitions.specs.declared.configuration.Moved.{Moved}
-use Rattle.transitions.specs.declared.configuration.Moved.the-variants.{On as MovedOn, Over as MovedOver}
-use Rattle.transitions.proofs.configuration.Moved.{the-type}
+use Rattle.configurations.specs.declared.look.Look.{Look}
+use Rattle.configurations.specs.declared.configuration.Configuration.{Configuration}
+use Rattle.configurations.specs.declared.configuration.Moved.{Moved}
+use Rattle.configurations.specs.declared.configuration.Moved.the-variants.{On as MovedOn, Over as MovedOver}
+use Rattle.configurations.proofs.configuration.Moved.{the-type}
 use Rattle.expansion.specs.declared.found.Found.{Found}
 use Rattle.expansion.specs.declared.plan.Position.{Position}
 use Rattle.expansion.specs.declared.plan.Bounds.{Bounds}

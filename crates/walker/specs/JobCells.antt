@@ -4,14 +4,14 @@ use mathlib.Core.List.{List}
 use lib.ListN.{replicate}
 use Rattle.syntax.specs.declared.job_ends.JobEnds.{JobEnds}
 use Rattle.syntax.specs.declared.numerals.Numerals.{Numerals}
-use Rattle.transitions.specs.ContractCells.{stores}
-use Rattle.transitions.specs.StartCells.{started, configured}
-use Rattle.transitions.specs.declared.start.Begun.{Begun}
-use Rattle.transitions.specs.declared.start.Started.{Started}
-use Rattle.transitions.specs.declared.start.Started.the-variants.{On, None, Over as StartedOver}
+use Rattle.configurations.specs.ContractCells.{stores}
+use Rattle.starts.specs.StartCells.{started, configured}
+use Rattle.starts.specs.declared.start.Begun.{Begun}
+use Rattle.starts.specs.declared.start.Started.{Started}
+use Rattle.starts.specs.declared.start.Started.the-variants.{On, None, Over as StartedOver}
 use Rattle.paths.specs.ReplayCells.{working}
 use Rattle.expansion.specs.PlanCells.{walked, nothingFound}
-use Rattle.walker.specs.AheadCells.{WalkStores, walkStores}
+use Rattle.backtracking.specs.AheadCells.{WalkStores, walkStores}
 use Rattle.walker.specs.WalkCells.{WalkedAnswer, walkedAnswer, walkedStart}
 use Rattle.expansion.specs.declared.found.Ending.the-variants.{Done, Over}
 

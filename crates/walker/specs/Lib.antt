@@ -1,3 +1,2 @@
-pub mod AheadCells
 pub mod WalkCells
 pub mod JobCells

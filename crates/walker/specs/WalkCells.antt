@@ -4,17 +4,17 @@ use mathlib.Core.Path.{_≡_}
 use mathlib.Core.Bool.{Bool, cond}
 use mathlib.Core.List.{List}
 use lib.Dec.{leb, ltb}
-use Rattle.transitions.specs.ConfigurationCells.{nodesOf, pastIndex}
-use Rattle.transitions.specs.ContractCells.{Stores}
+use Rattle.configurations.specs.ConfigurationCells.{nodesOf, pastIndex}
+use Rattle.configurations.specs.ContractCells.{Stores}
 use Rattle.transitions.specs.StepCells.{SameStores, SteppedAnswer, stepped}
 use Rattle.paths.specs.SavedCells.{SaveAnswer, savedCells}
 use Rattle.paths.specs.ReplayCells.{working}
 use Rattle.expansion.specs.PlanCells.{walked, nothingFound}
-use Rattle.walker.specs.AheadCells.{WalkStores, walkStores, SameWalk, nextPlanned}
-use Rattle.transitions.specs.declared.look.Look.{Look}
-use Rattle.transitions.specs.declared.configuration.Configuration.{Configuration}
-use Rattle.transitions.specs.declared.configuration.Moved.{Moved}
-use Rattle.transitions.specs.declared.configuration.Moved.the-variants.{On as MovedOn, Contradiction, Over as MovedOver}
+use Rattle.backtracking.specs.AheadCells.{WalkStores, walkStores, SameWalk, nextPlanned}
+use Rattle.configurations.specs.declared.look.Look.{Look}
+use Rattle.configurations.specs.declared.configuration.Configuration.{Configuration}
+use Rattle.configurations.specs.declared.configuration.Moved.{Moved}
+use Rattle.configurations.specs.declared.configuration.Moved.the-variants.{On as MovedOn, Contradiction, Over as MovedOver}
 use Rattle.expansion.specs.declared.found.Found.{Found}
 use Rattle.expansion.specs.declared.plan.Position.{Position}
 use Rattle.expansion.specs.declared.plan.Bounds.{Bounds}

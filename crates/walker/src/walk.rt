@@ -1,5 +1,9 @@
 // The walk: "depth first, true branch first, and goes N transitions deep", one transition of the tree a turn.
-use crate::ahead;
+use backtracking::ahead;
+use configurations::configuration;
+use configurations::configuration::Configuration;
+use configurations::configuration::Moved;
+use configurations::look::Look;
 use expansion::found;
 use expansion::found::Ending;
 use expansion::found::Found;
@@ -10,16 +14,12 @@ use expansion::plan::Plan;
 use expansion::plan::Position;
 use paths::saved;
 use sets::cell;
-use transitions::configuration;
-use transitions::configuration::Configuration;
-use transitions::configuration::Moved;
-use transitions::look::Look;
 use transitions::step;
 ghost use mathlib.Core.Path.{_≡_};
 ghost use mathlib.Core.Bool.{Bool};
-ghost use Rattle.transitions.specs.ContractCells.{stores};
+ghost use Rattle.configurations.specs.ContractCells.{stores};
 ghost use Rattle.paths.specs.ReplayCells.{working};
-ghost use Rattle.walker.specs.AheadCells.{walkStores};
+ghost use Rattle.backtracking.specs.AheadCells.{walkStores};
 ghost use Rattle.walker.specs.WalkCells.{counted, afterMove, MadeOut, made, TurnOut, walkTurn, WalkedOut, walkedOn, firstPosition, walkedStart};
 
 // "23 a transition would be number W+1": W is at most this.

@@ -6,8 +6,8 @@ use Rattle.lines.proofs.end.meet_end.Tie as tie
 use Rattle.lines.proofs.end.meet_end.Reads as reads
 use Rattle.lines.proofs.end.meet_end.Lts as lts
 use Rattle.lines.proofs.end.after_meeting.Reads as after-meeting-reads
-use Rattle.runner.proofs.output.plain_output.Reads as plain-output-reads
-use Rattle.sets.proofs.intersection.intersect.Reads as intersect-reads
+use Rattle.configurations.proofs.output.plain_output.Reads as plain-output-reads
+use Rattle.unification.proofs.intersection.intersect.Reads as intersect-reads
 
 plain-output-requires : tie.Need-plain-output-requires
 plain-output-requires c κs = search needs

@@ -5,7 +5,7 @@ use Rattle.lines.proofs.line.store_line.Statement.{statement}
 use Rattle.lines.proofs.line.store_line.Tie as tie
 use Rattle.lines.proofs.line.store_line.Reads as reads
 use Rattle.lines.proofs.line.store_line.Lts as lts
-use Rattle.transitions.proofs.configuration.past.Reads as past-reads
+use Rattle.configurations.proofs.configuration.past.Reads as past-reads
 use Rattle.lines.proofs.line.line_nodes.Reads as line-nodes-reads
 use Rattle.lines.proofs.line.store_header.Reads as store-header-reads
 use Rattle.sets.proofs.cell.copy.Reads as copy-reads

@@ -2,7 +2,7 @@ use Prim.Native.Nat.{_-_}
 use mathlib.Core.Path.{_≡_, refl, ap, _∙_, sym}
 use native.Mathlib.Omega.{arith}
 use lib.ListN.{length}
-use Rattle.transitions.specs.ContractCells.{stores}
+use Rattle.configurations.specs.ContractCells.{stores}
 use Rattle.paths.specs.ReplayCells.{working, followFrom, followed}
 use Rattle.paths.proofs.ReplayTurns.{followed-none, followed-on, followed-there, followed-lost}
 use borrow.Author.Needs.{needs}

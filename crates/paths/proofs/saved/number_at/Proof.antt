@@ -4,7 +4,7 @@ use Rattle.paths.proofs.saved.number_at.Statement.{statement}
 use Rattle.paths.proofs.saved.number_at.Tie as tie
 use Rattle.paths.proofs.saved.number_at.Reads as reads
 use Rattle.paths.proofs.saved.number_at.Lts as lts
-use Rattle.transitions.proofs.configuration.past.Reads as past-reads
+use Rattle.configurations.proofs.configuration.past.Reads as past-reads
 use Rattle.environments.proofs.store.wide.Reads as wide-reads
 use Rattle.sets.proofs.cell.cell.Reads as cell-reads
 

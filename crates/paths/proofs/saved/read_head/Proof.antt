@@ -3,7 +3,7 @@ use Rattle.paths.proofs.saved.read_head.Statement.{statement}
 use Rattle.paths.proofs.saved.read_head.Tie as tie
 use Rattle.paths.proofs.saved.read_head.Reads as reads
 use Rattle.paths.proofs.saved.read_head.Lts as lts
-use Rattle.transitions.proofs.configuration.past.Reads as past-reads
+use Rattle.configurations.proofs.configuration.past.Reads as past-reads
 use Rattle.paths.proofs.saved.number_at.Reads as number-at-reads
 use Rattle.sets.proofs.cell.cell.Reads as cell-reads
 

@@ -3,7 +3,7 @@ use Rattle.paths.proofs.trail.push_choice.Statement.{statement}
 use Rattle.paths.proofs.trail.push_choice.Tie as tie
 use Rattle.paths.proofs.trail.push_choice.Reads as reads
 use Rattle.paths.proofs.trail.push_choice.Lts as lts
-use Rattle.transitions.proofs.configuration.past.Reads as past-reads
+use Rattle.configurations.proofs.configuration.past.Reads as past-reads
 use Rattle.paths.proofs.trail.choice_cell.Reads as choice-cell-reads
 use Rattle.sets.proofs.cell.put.Reads as put-reads
 

@@ -4,7 +4,7 @@ use Rattle.print.proofs.list.job_terms.Statement.{statement}
 use Rattle.print.proofs.list.job_terms.Tie as tie
 use Rattle.print.proofs.list.job_terms.Reads as reads
 use Rattle.print.proofs.list.job_terms.Lts as lts
-use Rattle.transitions.proofs.start.lay_job.Reads as lay-job-reads
+use Rattle.starts.proofs.start.lay_job.Reads as lay-job-reads
 
 enum-known-both : tie.Need-enum-known-both
 enum-known-both c = search needs

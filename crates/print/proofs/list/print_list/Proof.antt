@@ -4,7 +4,7 @@ use Rattle.print.proofs.list.print_list.Tie as tie
 use Rattle.print.proofs.list.print_list.Reads as reads
 use Rattle.print.proofs.list.print_list.Lts as lts
 use Rattle.print.proofs.list.print_named.Reads as print-named-reads
-use Rattle.print.proofs.refusal.print_refusal.Reads as print-refusal-reads
+use Rattle.writer.proofs.refusal.print_refusal.Reads as print-refusal-reads
 
 enum-known-answer : tie.Need-enum-known-answer
 enum-known-answer c = search needs

@@ -1,22 +1,22 @@
 use Prim.Native.Nat.{ℕ}
 use mathlib.Core.Path.{ap, ap₂, _∙_}
 use mathlib.Core.List.{List}
-use Rattle.print.specs.Sink.{puts}
-use Rattle.print.specs.TreeText.{symbolText}
-use Rattle.print.specs.LineText.{linesText}
+use Rattle.writer.specs.Sink.{puts}
+use Rattle.writer.specs.TreeText.{symbolText}
+use Rattle.writer.specs.LineText.{linesText}
 use Rattle.print.specs.ListingText.{listingText}
-use Rattle.print.proofs.SinkLaws.{behind, printed}
+use Rattle.writer.proofs.SinkLaws.{behind, printed}
 use borrow.Author.Needs.{needs}
 use Rattle.print.proofs.list.print_listing.Statement.{statement}
 use Rattle.print.proofs.list.print_listing.Tie as tie
 use Rattle.print.proofs.list.print_listing.Reads as reads
 use Rattle.print.proofs.list.print_listing.Lts as lts
-use Rattle.print.proofs.line.put_lines.Reads as put-lines-reads
+use Rattle.writer.proofs.line.put_lines.Reads as put-lines-reads
 use Rattle.print.proofs.list.put_first.Reads as put-first-reads
-use Rattle.print.proofs.parts.front.Reads as front-reads
-use Rattle.print.proofs.sink.clear.Reads as clear-reads
-use Rattle.print.proofs.sink.opened.Reads as opened-reads
-use Rattle.print.proofs.sink.written.Reads as written-reads
+use Rattle.writer.proofs.parts.front.Reads as front-reads
+use Rattle.writer.proofs.sink.clear.Reads as clear-reads
+use Rattle.writer.proofs.sink.opened.Reads as opened-reads
+use Rattle.writer.proofs.sink.written.Reads as written-reads
 
 mul-front : tie.Need-mul-front
 mul-front c = search needs

@@ -5,7 +5,7 @@ use Rattle.print.proofs.ran.print_named.Tie as tie
 use Rattle.print.proofs.ran.print_named.Reads as reads
 use Rattle.print.proofs.ran.print_named.Lts as lts
 use Rattle.print.proofs.names.read_names.Reads as read-names-reads
-use Rattle.print.proofs.outcome.print_outcome.Reads as print-outcome-reads
+use Rattle.writer.proofs.outcome.print_outcome.Reads as print-outcome-reads
 
 slice-aggregate-read-names : tie.Need-slice-aggregate-read-names
 slice-aggregate-read-names c = search needs

@@ -4,7 +4,7 @@ use Rattle.runner.proofs.forward.is_end.Statement.{statement}
 use Rattle.runner.proofs.forward.is_end.Tie as tie
 use Rattle.runner.proofs.forward.is_end.Reads as reads
 use Rattle.runner.proofs.forward.is_end.Lts as lts
-use Rattle.transitions.proofs.configuration.past.Reads as past-reads
+use Rattle.configurations.proofs.configuration.past.Reads as past-reads
 use Rattle.environments.proofs.value.key.Reads as key-reads
 
 key-requires : tie.Need-key-requires

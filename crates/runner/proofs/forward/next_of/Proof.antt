@@ -3,8 +3,8 @@ use Rattle.runner.proofs.forward.next_of.Statement.{statement}
 use Rattle.runner.proofs.forward.next_of.Tie as tie
 use Rattle.runner.proofs.forward.next_of.Reads as reads
 use Rattle.runner.proofs.forward.next_of.Lts as lts
-use Rattle.transitions.proofs.branch.false_of.Reads as false-of-reads
-use Rattle.transitions.proofs.branch.true_of.Reads as true-of-reads
+use Rattle.configurations.proofs.branch.false_of.Reads as false-of-reads
+use Rattle.configurations.proofs.branch.true_of.Reads as true-of-reads
 use Rattle.transitions.proofs.call.body_of.Reads as body-of-reads
 use Rattle.transitions.proofs.call.callee.Reads as callee-reads
 use Rattle.transitions.proofs.step.is_call.Reads as is-call-reads

@@ -2,7 +2,7 @@ use Prim.Native.Nat.{_-_}
 use mathlib.Core.Path.{_≡_, refl, _∙_}
 use native.Mathlib.Omega.{arith}
 use lib.ListN.{length}
-use Rattle.transitions.specs.ContractCells.{stores}
+use Rattle.configurations.specs.ContractCells.{stores}
 use Rattle.runner.specs.ForwardCells.{ranFrom, ranOn}
 use Rattle.runner.proofs.ForwardTurns.{ran-none, ran-on, ran-stopped}
 use borrow.Author.Needs.{needs}
@@ -11,7 +11,7 @@ use Rattle.runner.proofs.forward.run_on.Tie as tie
 use Rattle.runner.proofs.forward.run_on.Reads as reads
 use Rattle.runner.proofs.forward.run_on.Lts as lts
 use Rattle.runner.proofs.forward.take_turn.Reads as take-turn-reads
-use Rattle.transitions.proofs.look.look_term.Reads as look-term-reads
+use Rattle.configurations.proofs.look.look_term.Reads as look-term-reads
 
 abbrev Inv-loop : tie.InvT-loop
 Inv-loop marks nums ends heads count io₀ ev₀ et₀ av₀ q₀ io2₀ ev2₀ et2₀ av2₀ late₀ val₀ answer₀ steps d₀ k₀ io ev et av q io2 ev2 et2 av2 late val answer d k =

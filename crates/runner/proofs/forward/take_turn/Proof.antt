@@ -1,4 +1,4 @@
-use Rattle.transitions.specs.ContractCells.{stores}
+use Rattle.configurations.specs.ContractCells.{stores}
 use Rattle.runner.specs.ForwardCells.{forwarded}
 use Rattle.runner.proofs.ForwardTurns.{turn-gone}
 use borrow.Author.Needs.{needs}

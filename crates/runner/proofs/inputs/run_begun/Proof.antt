@@ -1,5 +1,5 @@
 use mathlib.Core.Path.{refl, ap, _∙_}
-use Rattle.transitions.specs.ConfigurationCells.{sizedOf}
+use Rattle.configurations.specs.ConfigurationCells.{sizedOf}
 use Rattle.runner.specs.InputsCells.{runBegun}
 use borrow.Author.Needs.{needs}
 use Rattle.runner.proofs.inputs.run_begun.Statement.{statement}
@@ -7,8 +7,8 @@ use Rattle.runner.proofs.inputs.run_begun.Tie as tie
 use Rattle.runner.proofs.inputs.run_begun.Reads as reads
 use Rattle.runner.proofs.inputs.run_begun.Lts as lts
 use Rattle.runner.proofs.inputs.run_loop.Reads as run-loop-reads
-use Rattle.transitions.proofs.configuration.sized.Reads as sized-reads
-use Rattle.transitions.proofs.start.configured.Reads as configured-reads
+use Rattle.configurations.proofs.configuration.sized.Reads as sized-reads
+use Rattle.starts.proofs.start.configured.Reads as configured-reads
 
 configured-requires : tie.Need-configured-requires
 configured-requires c κs = search needs

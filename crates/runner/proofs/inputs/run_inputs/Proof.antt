@@ -6,7 +6,7 @@ use Rattle.runner.proofs.inputs.run_inputs.Tie as tie
 use Rattle.runner.proofs.inputs.run_inputs.Reads as reads
 use Rattle.runner.proofs.inputs.run_inputs.Lts as lts
 use Rattle.runner.proofs.inputs.run_begun.Reads as run-begun-reads
-use Rattle.transitions.proofs.start.start_run.Reads as start-run-reads
+use Rattle.starts.proofs.start.start_run.Reads as start-run-reads
 
 slice-aggregate-start-run : tie.Need-slice-aggregate-start-run
 slice-aggregate-start-run c = search needs

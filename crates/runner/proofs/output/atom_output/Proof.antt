@@ -5,8 +5,8 @@ use Rattle.runner.proofs.output.atom_output.Statement.{statement}
 use Rattle.runner.proofs.output.atom_output.Tie as tie
 use Rattle.runner.proofs.output.atom_output.Reads as reads
 use Rattle.runner.proofs.output.atom_output.Lts as lts
-use Rattle.runner.proofs.output.End.within.Reads as within-reads
-use Rattle.runner.proofs.output.plain_output.Reads as plain-output-reads
+use Rattle.configurations.proofs.output.End.within.Reads as within-reads
+use Rattle.configurations.proofs.output.plain_output.Reads as plain-output-reads
 use Rattle.transitions.proofs.transition.bind_atom.Reads as bind-atom-reads
 
 bind-atom-requires : tie.Need-bind-atom-requires

@@ -9,8 +9,8 @@ use Rattle.runner.proofs.output.call_output.Lts as lts
 use Rattle.environments.proofs.arguments.argument_end.Reads as argument-end-reads
 use Rattle.environments.proofs.late.delay_arguments.Reads as delay-arguments-reads
 use Rattle.environments.proofs.late.evaluate_late.Reads as evaluate-late-reads
-use Rattle.runner.proofs.output.plain_output.Reads as plain-output-reads
-use Rattle.transitions.proofs.configuration.past.Reads as past-reads
+use Rattle.configurations.proofs.output.plain_output.Reads as plain-output-reads
+use Rattle.configurations.proofs.configuration.past.Reads as past-reads
 
 plain-output-requires : tie.Need-plain-output-requires
 plain-output-requires c κs = search needs

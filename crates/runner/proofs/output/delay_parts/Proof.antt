@@ -6,9 +6,9 @@ use Rattle.runner.proofs.output.delay_parts.Tie as tie
 use Rattle.runner.proofs.output.delay_parts.Reads as reads
 use Rattle.runner.proofs.output.delay_parts.Lts as lts
 use Rattle.environments.proofs.arguments.argument_end.Reads as argument-end-reads
-use Rattle.transitions.proofs.branch.left_of.Reads as left-of-reads
-use Rattle.transitions.proofs.branch.right_of.Reads as right-of-reads
-use Rattle.transitions.proofs.configuration.past.Reads as past-reads
+use Rattle.configurations.proofs.branch.left_of.Reads as left-of-reads
+use Rattle.configurations.proofs.branch.right_of.Reads as right-of-reads
+use Rattle.configurations.proofs.configuration.past.Reads as past-reads
 use Rattle.environments.proofs.store.cell_of.Reads as cell-of-reads
 use Rattle.environments.proofs.store.store_entry.Reads as store-entry-reads
 use Rattle.sets.proofs.cell.cell.Reads as cell-reads

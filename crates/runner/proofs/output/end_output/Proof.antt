@@ -9,7 +9,7 @@ use Rattle.runner.proofs.output.atom_output.Reads as atom-output-reads
 use Rattle.runner.proofs.output.call_output.Reads as call-output-reads
 use Rattle.runner.proofs.output.large_output.Reads as large-output-reads
 use Rattle.runner.proofs.output.pair_output.Reads as pair-output-reads
-use Rattle.runner.proofs.output.plain_output.Reads as plain-output-reads
+use Rattle.configurations.proofs.output.plain_output.Reads as plain-output-reads
 use Rattle.transitions.proofs.call.callee.Reads as callee-reads
 
 enum-told : tie.Need-enum-told

@@ -5,9 +5,9 @@ use Rattle.runner.proofs.output.pair_output.Statement.{statement}
 use Rattle.runner.proofs.output.pair_output.Tie as tie
 use Rattle.runner.proofs.output.pair_output.Reads as reads
 use Rattle.runner.proofs.output.pair_output.Lts as lts
-use Rattle.runner.proofs.output.End.within.Reads as within-reads
-use Rattle.runner.proofs.output.plain_output.Reads as plain-output-reads
-use Rattle.transitions.proofs.branch.right_of.Reads as right-of-reads
+use Rattle.configurations.proofs.output.End.within.Reads as within-reads
+use Rattle.configurations.proofs.output.plain_output.Reads as plain-output-reads
+use Rattle.configurations.proofs.branch.right_of.Reads as right-of-reads
 use Rattle.transitions.proofs.transition.bind_names.Reads as bind-names-reads
 
 right-of-requires : tie.Need-right-of-requires

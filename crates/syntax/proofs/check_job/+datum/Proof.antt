@@ -1,5 +1,5 @@
 use borrow.Author.Tests.{eq-eqb, ne-eqb}
-use Rattle.syntax.proofs.CheckOpenings.{datum-more, datum-none}
+use Rattle.syntax.proofs.PartOpenings.{datum-more, datum-none}
 use borrow.Author.Needs.{needs}
 use Prim.Native.Nat.{ℕ, _<_}
 use borrow.Fn.Kinds.{In}
@@ -7,10 +7,10 @@ use borrow.Fn.PlainCycle.{Measures, is, falls, and}
 use Rattle.syntax.proofs.check_job.datum.Reads as datum
 use Rattle.syntax.proofs.check_job.datum.Kinds as datum-kinds
 use Rattle.syntax.proofs.check_job.+datum.Lts-datum as datum-lts
-use Rattle.syntax.proofs.check.first.Reads as first-reads
+use Rattle.checker.proofs.check.first.Reads as first-reads
 use Rattle.syntax.proofs.check_job.datum_leaf.Reads as datum-leaf-reads
-use Rattle.syntax.proofs.places.ahead.Reads as ahead-reads
-use Rattle.syntax.proofs.places.key.Reads as key-reads
+use Rattle.checker.proofs.places.ahead.Reads as ahead-reads
+use Rattle.checker.proofs.places.key.Reads as key-reads
 use Rattle.syntax.proofs.check_job.+datum.{statement}
 use Rattle.syntax.proofs.check_job.+datum.Tie.{close}
 

@@ -1,5 +1,5 @@
 use borrow.Author.Tests.{eq-eqb, ne-eqb}
-use Rattle.syntax.proofs.CheckOpenings.{inputs-more, inputs-none}
+use Rattle.syntax.proofs.PartOpenings.{inputs-more, inputs-none}
 use borrow.Author.Needs.{needs}
 use Prim.Native.Nat.{ℕ, _<_}
 use borrow.Fn.Kinds.{In}
@@ -7,12 +7,12 @@ use borrow.Fn.PlainCycle.{Measures, is, falls, and}
 use Rattle.syntax.proofs.check_job.inputs.Reads as inputs
 use Rattle.syntax.proofs.check_job.inputs.Kinds as inputs-kinds
 use Rattle.syntax.proofs.check_job.+inputs.Lts-inputs as inputs-lts
-use Rattle.syntax.proofs.check.both.Reads as both-reads
-use Rattle.syntax.proofs.check.first.Reads as first-reads
-use Rattle.syntax.proofs.check.negated.Reads as negated-reads
+use Rattle.checker.proofs.check.both.Reads as both-reads
+use Rattle.checker.proofs.check.first.Reads as first-reads
+use Rattle.checker.proofs.check.negated.Reads as negated-reads
 use Rattle.syntax.proofs.check_job.input.Reads as input-reads
-use Rattle.syntax.proofs.places.ahead.Reads as ahead-reads
-use Rattle.syntax.proofs.places.key.Reads as key-reads
+use Rattle.checker.proofs.places.ahead.Reads as ahead-reads
+use Rattle.checker.proofs.places.key.Reads as key-reads
 use Rattle.syntax.proofs.check_job.+inputs.{statement}
 use Rattle.syntax.proofs.check_job.+inputs.Tie.{close}
 

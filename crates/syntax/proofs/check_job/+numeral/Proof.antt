@@ -1,5 +1,5 @@
 use borrow.Author.Tests.{le-leb, le-ltb, lt-leb, lt-ltb}
-use Rattle.syntax.proofs.CheckOpenings.{numeral-more, numeral-none}
+use Rattle.syntax.proofs.PartOpenings.{numeral-more, numeral-none}
 use borrow.Author.Needs.{needs}
 use Prim.Native.Nat.{ℕ, _<_}
 use borrow.Fn.Kinds.{In}
@@ -8,7 +8,7 @@ use Rattle.syntax.proofs.check_job.numeral.Reads as numeral
 use Rattle.syntax.proofs.check_job.numeral.Kinds as numeral-kinds
 use Rattle.syntax.proofs.check_job.+numeral.Lts-numeral as numeral-lts
 use Rattle.lexer.proofs.cells.byte.Reads as byte-reads
-use Rattle.syntax.proofs.places.ahead.Reads as ahead-reads
+use Rattle.checker.proofs.places.ahead.Reads as ahead-reads
 use Rattle.syntax.proofs.check_job.+numeral.{statement}
 use Rattle.syntax.proofs.check_job.+numeral.Tie.{close}
 

@@ -1,5 +1,5 @@
 use borrow.Author.Tests.{eq-eqb, ne-eqb}
-use Rattle.syntax.proofs.CheckOpenings.{sides-more, sides-none}
+use Rattle.syntax.proofs.PartOpenings.{sides-more, sides-none}
 use borrow.Author.Needs.{needs}
 use Prim.Native.Nat.{ℕ, _<_}
 use borrow.Fn.Kinds.{In}
@@ -7,10 +7,10 @@ use borrow.Fn.PlainCycle.{Measures, is, falls, and}
 use Rattle.syntax.proofs.check_job.sides.Reads as sides
 use Rattle.syntax.proofs.check_job.sides.Kinds as sides-kinds
 use Rattle.syntax.proofs.check_job.+sides.Lts-sides as sides-lts
-use Rattle.syntax.proofs.check.first.Reads as first-reads
+use Rattle.checker.proofs.check.first.Reads as first-reads
 use Rattle.syntax.proofs.check_job.two_sides.Reads as two-sides-reads
-use Rattle.syntax.proofs.places.ahead.Reads as ahead-reads
-use Rattle.syntax.proofs.places.key.Reads as key-reads
+use Rattle.checker.proofs.places.ahead.Reads as ahead-reads
+use Rattle.checker.proofs.places.key.Reads as key-reads
 use Rattle.syntax.proofs.check_job.+sides.{statement}
 use Rattle.syntax.proofs.check_job.+sides.Tie.{close}
 

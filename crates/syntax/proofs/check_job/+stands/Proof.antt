@@ -1,4 +1,4 @@
-use Rattle.syntax.proofs.CheckOpenings.{stands-more, stands-none}
+use Rattle.syntax.proofs.PartOpenings.{stands-more, stands-none}
 use borrow.Author.Needs.{needs}
 use Prim.Native.Nat.{ℕ, _-_, _<_}
 use borrow.Fn.Kinds.{In}
@@ -6,9 +6,9 @@ use borrow.Fn.PlainCycle.{Measures, is, falls, and}
 use Rattle.syntax.proofs.check_job.stands.Reads as stands
 use Rattle.syntax.proofs.check_job.stands.Kinds as stands-kinds
 use Rattle.syntax.proofs.check_job.+stands.Lts-stands as stands-lts
-use Rattle.syntax.proofs.check.both.Reads as both-reads
-use Rattle.syntax.proofs.places.kind.Reads as kind-reads
-use Rattle.syntax.proofs.places.num.Reads as num-reads
+use Rattle.checker.proofs.check.both.Reads as both-reads
+use Rattle.checker.proofs.places.kind.Reads as kind-reads
+use Rattle.checker.proofs.places.num.Reads as num-reads
 use Rattle.syntax.proofs.check_job.+stands.{statement}
 use Rattle.syntax.proofs.check_job.+stands.Tie.{close}
 

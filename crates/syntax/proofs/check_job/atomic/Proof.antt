@@ -3,10 +3,10 @@ use Rattle.syntax.proofs.check_job.atomic.Statement.{statement}
 use Rattle.syntax.proofs.check_job.atomic.Tie as tie
 use Rattle.syntax.proofs.check_job.atomic.Reads as reads
 use Rattle.syntax.proofs.check_job.atomic.Lts as lts
-use Rattle.syntax.proofs.check.both.Reads as both-reads
-use Rattle.syntax.proofs.check.negated.Reads as negated-reads
-use Rattle.syntax.proofs.places.key.Reads as key-reads
-use Rattle.syntax.proofs.places.kind.Reads as kind-reads
+use Rattle.checker.proofs.check.both.Reads as both-reads
+use Rattle.checker.proofs.check.negated.Reads as negated-reads
+use Rattle.checker.proofs.places.key.Reads as key-reads
+use Rattle.checker.proofs.places.kind.Reads as kind-reads
 
 key-requires : tie.Need-key-requires
 key-requires c κs = search needs

@@ -3,11 +3,11 @@ use Rattle.syntax.proofs.check_job.bounds.Statement.{statement}
 use Rattle.syntax.proofs.check_job.bounds.Tie as tie
 use Rattle.syntax.proofs.check_job.bounds.Reads as reads
 use Rattle.syntax.proofs.check_job.bounds.Lts as lts
-use Rattle.syntax.proofs.check.first.Reads as first-reads
-use Rattle.syntax.proofs.check.judge.Reads as judge-reads
+use Rattle.checker.proofs.check.first.Reads as first-reads
+use Rattle.checker.proofs.check.judge.Reads as judge-reads
 use Rattle.syntax.proofs.check_job.numeral.Reads as numeral-reads
-use Rattle.syntax.proofs.places.ahead.Reads as ahead-reads
-use Rattle.syntax.proofs.places.offset.Reads as offset-reads
+use Rattle.checker.proofs.places.ahead.Reads as ahead-reads
+use Rattle.checker.proofs.places.offset.Reads as offset-reads
 
 ahead-requires : tie.Need-ahead-requires
 ahead-requires c κs = search needs

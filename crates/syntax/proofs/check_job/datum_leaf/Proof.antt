@@ -3,12 +3,12 @@ use Rattle.syntax.proofs.check_job.datum_leaf.Statement.{statement}
 use Rattle.syntax.proofs.check_job.datum_leaf.Tie as tie
 use Rattle.syntax.proofs.check_job.datum_leaf.Reads as reads
 use Rattle.syntax.proofs.check_job.datum_leaf.Lts as lts
-use Rattle.syntax.proofs.check.either.Reads as either-reads
-use Rattle.syntax.proofs.check.judge.Reads as judge-reads
-use Rattle.syntax.proofs.check.negated.Reads as negated-reads
-use Rattle.syntax.proofs.places.ahead.Reads as ahead-reads
-use Rattle.syntax.proofs.places.kind.Reads as kind-reads
-use Rattle.syntax.proofs.places.offset.Reads as offset-reads
+use Rattle.checker.proofs.check.either.Reads as either-reads
+use Rattle.checker.proofs.check.judge.Reads as judge-reads
+use Rattle.checker.proofs.check.negated.Reads as negated-reads
+use Rattle.checker.proofs.places.ahead.Reads as ahead-reads
+use Rattle.checker.proofs.places.kind.Reads as kind-reads
+use Rattle.checker.proofs.places.offset.Reads as offset-reads
 
 kind-requires : tie.Need-kind-requires
 kind-requires c κs = search needs

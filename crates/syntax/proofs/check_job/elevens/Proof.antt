@@ -6,7 +6,7 @@ use Rattle.syntax.proofs.check_job.elevens.Reads as reads
 use Rattle.syntax.proofs.check_job.elevens.Lts as lts
 use Rattle.syntax.proofs.check_job.datum.Reads as datum-reads
 use Rattle.syntax.proofs.check_job.sides.Reads as sides-reads
-use Rattle.syntax.proofs.places.ahead.Reads as ahead-reads
+use Rattle.checker.proofs.places.ahead.Reads as ahead-reads
 
 ahead-requires : tie.Need-ahead-requires
 ahead-requires c κs = search needs

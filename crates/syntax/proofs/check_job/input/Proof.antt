@@ -4,14 +4,14 @@ use Rattle.syntax.proofs.check_job.input.Statement.{statement}
 use Rattle.syntax.proofs.check_job.input.Tie as tie
 use Rattle.syntax.proofs.check_job.input.Reads as reads
 use Rattle.syntax.proofs.check_job.input.Lts as lts
-use Rattle.syntax.proofs.check.either.Reads as either-reads
-use Rattle.syntax.proofs.check.first.Reads as first-reads
-use Rattle.syntax.proofs.check.judge.Reads as judge-reads
-use Rattle.syntax.proofs.check.negated.Reads as negated-reads
+use Rattle.checker.proofs.check.either.Reads as either-reads
+use Rattle.checker.proofs.check.first.Reads as first-reads
+use Rattle.checker.proofs.check.judge.Reads as judge-reads
+use Rattle.checker.proofs.check.negated.Reads as negated-reads
 use Rattle.syntax.proofs.check_job.atomic.Reads as atomic-reads
 use Rattle.syntax.proofs.check_job.datum.Reads as datum-reads
-use Rattle.syntax.proofs.places.kind.Reads as kind-reads
-use Rattle.syntax.proofs.places.offset.Reads as offset-reads
+use Rattle.checker.proofs.places.kind.Reads as kind-reads
+use Rattle.checker.proofs.places.offset.Reads as offset-reads
 
 datum-requires : tie.Need-datum-requires
 datum-requires c κs = search needs

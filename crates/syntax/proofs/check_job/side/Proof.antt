@@ -3,12 +3,12 @@ use Rattle.syntax.proofs.check_job.side.Statement.{statement}
 use Rattle.syntax.proofs.check_job.side.Tie as tie
 use Rattle.syntax.proofs.check_job.side.Reads as reads
 use Rattle.syntax.proofs.check_job.side.Lts as lts
-use Rattle.syntax.proofs.check.both.Reads as both-reads
-use Rattle.syntax.proofs.check.either.Reads as either-reads
+use Rattle.checker.proofs.check.both.Reads as both-reads
+use Rattle.checker.proofs.check.either.Reads as either-reads
 use Rattle.syntax.proofs.check_job.atomic.Reads as atomic-reads
 use Rattle.syntax.proofs.check_job.stands.Reads as stands-reads
-use Rattle.syntax.proofs.places.kind.Reads as kind-reads
-use Rattle.syntax.proofs.places.num.Reads as num-reads
+use Rattle.checker.proofs.places.kind.Reads as kind-reads
+use Rattle.checker.proofs.places.num.Reads as num-reads
 
 num-requires : tie.Need-num-requires
 num-requires c κs = search needs

@@ -4,10 +4,10 @@ use Rattle.syntax.proofs.check_job.tens.Statement.{statement}
 use Rattle.syntax.proofs.check_job.tens.Tie as tie
 use Rattle.syntax.proofs.check_job.tens.Reads as reads
 use Rattle.syntax.proofs.check_job.tens.Lts as lts
-use Rattle.syntax.proofs.check.first.Reads as first-reads
-use Rattle.syntax.proofs.check.judge.Reads as judge-reads
+use Rattle.checker.proofs.check.first.Reads as first-reads
+use Rattle.checker.proofs.check.judge.Reads as judge-reads
 use Rattle.syntax.proofs.check_job.inputs.Reads as inputs-reads
-use Rattle.syntax.proofs.places.offset.Reads as offset-reads
+use Rattle.checker.proofs.places.offset.Reads as offset-reads
 
 inputs-requires : tie.Need-inputs-requires
 inputs-requires c κs = search needs

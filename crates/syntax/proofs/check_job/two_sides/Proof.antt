@@ -4,12 +4,12 @@ use Rattle.syntax.proofs.check_job.two_sides.Statement.{statement}
 use Rattle.syntax.proofs.check_job.two_sides.Tie as tie
 use Rattle.syntax.proofs.check_job.two_sides.Reads as reads
 use Rattle.syntax.proofs.check_job.two_sides.Lts as lts
-use Rattle.syntax.proofs.check.first.Reads as first-reads
-use Rattle.syntax.proofs.check.judge.Reads as judge-reads
+use Rattle.checker.proofs.check.first.Reads as first-reads
+use Rattle.checker.proofs.check.judge.Reads as judge-reads
 use Rattle.syntax.proofs.check_job.datum.Reads as datum-reads
 use Rattle.syntax.proofs.check_job.side.Reads as side-reads
-use Rattle.syntax.proofs.places.ahead.Reads as ahead-reads
-use Rattle.syntax.proofs.places.offset.Reads as offset-reads
+use Rattle.checker.proofs.places.ahead.Reads as ahead-reads
+use Rattle.checker.proofs.places.offset.Reads as offset-reads
 
 datum-requires : tie.Need-datum-requires
 datum-requires c κs = search needs

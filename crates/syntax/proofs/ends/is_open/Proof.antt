@@ -3,8 +3,8 @@ use Rattle.syntax.proofs.ends.is_open.Statement.{statement}
 use Rattle.syntax.proofs.ends.is_open.Tie as tie
 use Rattle.syntax.proofs.ends.is_open.Reads as reads
 use Rattle.syntax.proofs.ends.is_open.Lts as lts
-use Rattle.syntax.proofs.check.either.Reads as either-reads
-use Rattle.syntax.proofs.places.key.Reads as key-reads
+use Rattle.checker.proofs.check.either.Reads as either-reads
+use Rattle.checker.proofs.places.key.Reads as key-reads
 
 key-requires : tie.Need-key-requires
 key-requires c κs = search needs

@@ -5,9 +5,9 @@ use native.Mathlib.Nat.{sub-zero}
 use native.Mathlib.Omega.{arith}
 use lib.ListN.{length, set, length-set}
 use Rattle.lexer.specs.Marks.{cellOf}
-use Rattle.syntax.specs.StoredAt.{keyAt}
+use Rattle.checker.specs.StoredAt.{keyAt}
 use Rattle.syntax.specs.Ends.{endsFrom}
-use Rattle.syntax.proofs.CheckOpenings.{ends-none, ends-more}
+use Rattle.syntax.proofs.PartOpenings.{ends-none, ends-more}
 use borrow.Author.Needs.{needs}
 use Rattle.syntax.proofs.ends.mark_ends.Statement.{statement}
 use Rattle.syntax.proofs.ends.mark_ends.Tie as tie

@@ -5,7 +5,7 @@ use Rattle.syntax.proofs.ends.past.Tie as tie
 use Rattle.syntax.proofs.ends.past.Reads as reads
 use Rattle.syntax.proofs.ends.past.Lts as lts
 use Rattle.syntax.proofs.ends.close_from.Reads as close-from-reads
-use Rattle.syntax.proofs.places.key.Reads as key-reads
+use Rattle.checker.proofs.places.key.Reads as key-reads
 
 returns : tie.Need-returns
 returns c =

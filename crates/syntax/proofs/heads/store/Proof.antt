@@ -5,14 +5,14 @@ use native.Mathlib.Nat.{sub-zero}
 use lib.ListN.{length, set, length-set}
 use Rattle.lexer.specs.Marks.{cellOf}
 use Rattle.syntax.specs.Heads.{headsFrom}
-use Rattle.syntax.proofs.CheckOpenings.{heads-none, heads-more}
+use Rattle.syntax.proofs.PartOpenings.{heads-none, heads-more}
 use borrow.Author.Needs.{needs}
 use Rattle.syntax.proofs.heads.store.Statement.{statement}
 use Rattle.syntax.proofs.heads.store.Tie as tie
 use Rattle.syntax.proofs.heads.store.Reads as reads
 use Rattle.syntax.proofs.heads.store.Lts as lts
 use Rattle.lexer.proofs.cells.put.Reads as put-reads
-use Rattle.syntax.proofs.check.index.Reads as index-reads
+use Rattle.checker.proofs.check.index.Reads as index-reads
 use Rattle.syntax.proofs.ends.narrow.Reads as narrow-reads
 
 abbrev Inv-loop : tie.InvT-loop

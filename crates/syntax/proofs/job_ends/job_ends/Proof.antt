@@ -5,7 +5,7 @@ use Rattle.syntax.proofs.job_ends.job_ends.Reads as reads
 use Rattle.syntax.proofs.job_ends.job_ends.Lts as lts
 use Rattle.syntax.proofs.ends.past.Reads as past-reads
 use Rattle.syntax.proofs.job_ends.before.Reads as before-reads
-use Rattle.syntax.proofs.places.ahead.Reads as ahead-reads
+use Rattle.checker.proofs.places.ahead.Reads as ahead-reads
 
 past-requires : tie.Need-past-requires
 past-requires c κs = search needs

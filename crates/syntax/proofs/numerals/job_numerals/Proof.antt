@@ -4,8 +4,8 @@ use Rattle.syntax.proofs.numerals.job_numerals.Tie as tie
 use Rattle.syntax.proofs.numerals.job_numerals.Reads as reads
 use Rattle.syntax.proofs.numerals.job_numerals.Lts as lts
 use Rattle.syntax.proofs.check_job.numeral.Reads as numeral-reads
-use Rattle.syntax.proofs.places.ahead.Reads as ahead-reads
-use Rattle.syntax.proofs.places.offset.Reads as offset-reads
+use Rattle.checker.proofs.places.ahead.Reads as ahead-reads
+use Rattle.checker.proofs.places.offset.Reads as offset-reads
 
 ahead-requires : tie.Need-ahead-requires
 ahead-requires c κs = search needs

@@ -5,7 +5,7 @@ use Rattle.transitions.proofs.call.callee.Tie as tie
 use Rattle.transitions.proofs.call.callee.Reads as reads
 use Rattle.transitions.proofs.call.callee.Lts as lts
 use Rattle.transitions.proofs.call.head_of.Reads as head-of-reads
-use Rattle.transitions.proofs.configuration.past.Reads as past-reads
+use Rattle.configurations.proofs.configuration.past.Reads as past-reads
 use Rattle.environments.proofs.store.wide.Reads as wide-reads
 use Rattle.sets.proofs.cell.cell.Reads as cell-reads
 

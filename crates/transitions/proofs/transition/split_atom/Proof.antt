@@ -2,7 +2,7 @@
 use Rattle.transitions.specs.TransitionCells.{atomSplit}
 use mathlib.Core.Path.{refl, ap, _∙_, sym}
 use Rattle.sets.specs.declared.contraction.Split.{Split}
-use Rattle.transitions.specs.ContractCells.{stores}
+use Rattle.configurations.specs.ContractCells.{stores}
 use Rattle.transitions.proofs.TransitionTurns.{atom-over, atom-on}
 use borrow.Author.Needs.{needs}
 use Rattle.transitions.proofs.transition.split_atom.Statement.{statement}

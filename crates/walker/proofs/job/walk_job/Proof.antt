@@ -9,7 +9,7 @@ use Rattle.walker.proofs.job.walk_job.Reads as reads
 use Rattle.walker.proofs.job.walk_job.Lts as lts
 use Rattle.expansion.proofs.found.nothing.Reads as nothing-reads
 use Rattle.expansion.proofs.found.stopped.Reads as stopped-reads
-use Rattle.transitions.proofs.start.start.Reads as start-reads
+use Rattle.starts.proofs.start.start.Reads as start-reads
 use Rattle.walker.proofs.job.walk_begun.Reads as walk-begun-reads
 
 slice-aggregate-start : tie.Need-slice-aggregate-start

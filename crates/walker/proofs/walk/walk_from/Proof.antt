@@ -8,7 +8,7 @@ use Rattle.walker.proofs.walk.walk_from.Lts as lts
 use Rattle.paths.proofs.saved.save.Reads as save-reads
 use Rattle.walker.proofs.walk.first.Reads as first-reads
 use Rattle.walker.proofs.walk.walk_on.Reads as walk-on-reads
-use Rattle.transitions.proofs.configuration.sized.Reads as sized-reads
+use Rattle.configurations.proofs.configuration.sized.Reads as sized-reads
 
 nothing-requires : tie.Need-nothing-requires
 nothing-requires c κs = search needs

@@ -2,9 +2,9 @@ use Prim.Native.Nat.{ℕ, _+_, _-_, min}
 use mathlib.Core.Path.{_≡_, refl, ap, _∙_}
 use native.Mathlib.Omega.{arith}
 use lib.ListN.{length}
-use Rattle.transitions.specs.ContractCells.{stores}
+use Rattle.configurations.specs.ContractCells.{stores}
 use Rattle.paths.specs.ReplayCells.{working}
-use Rattle.walker.specs.AheadCells.{walkStores}
+use Rattle.backtracking.specs.AheadCells.{walkStores}
 use Rattle.walker.specs.WalkCells.{walkedFrom, walkedOn}
 use Rattle.walker.proofs.WalkTurns.{walked-none, walked-on, walked-stop}
 use borrow.Author.Needs.{needs}

@@ -1,0 +1,3 @@
+pub mod StoredAt
+pub mod CheckAt
+pub mod CheckStored

@@ -1,0 +1,109 @@
+// What the check of a program by its tokens is made of (specs/CheckAt.antt).
+ghost use mathlib.Core.Path.{_≡_};
+ghost use mathlib.Core.Bool.{_&&_, _||_, not};
+ghost use lib.ListN.{getD};
+ghost use Rattle.checker.specs.CheckAt.{first, judge, push, noNames};
+
+// What a check finds: nothing, or the first fault.
+pub enum Verdict {
+    Fine,
+    Fault { number: usize, offset: usize },
+}
+
+// What was walked over: the index past it, the first fault of 6, the first of 7, 8 and 9.
+pub struct Walked {
+    pub past: usize,
+    pub names: Verdict,
+    pub uses: Verdict,
+}
+
+// The arguments of a call: the index of their closing bracket, whether they are as many as the parameters, the first fault of 8 and 9.
+pub struct Args {
+    pub past: usize,
+    pub fits: bool,
+    pub uses: Verdict,
+}
+
+// The names in reach, latest last, each by the index of a token that has it: 16 parameters, and two names for each of 64 open brackets.
+pub struct Names {
+    pub cells: [usize; 144],
+    pub used: usize,
+}
+
+// The definitions so far, each by the index of its name; the index past them, and the first fault of 6.
+pub struct Defs {
+    pub heads: [usize; 64],
+    pub count: usize,
+    pub past: usize,
+    pub names: Verdict,
+}
+
+// Of two faults the first.
+pub fn first(a: Verdict, b: Verdict) -> Verdict
+    ensures { λ r. ⌜ r ≡ first a b ⌝ }
+{
+    match a {
+        Verdict::Fine => b,
+        Verdict::Fault { number, offset } => Verdict::Fault { number, offset },
+    }
+}
+
+// A fault unless the test passes.
+pub fn judge(passes: bool, number: usize, offset: usize) -> Verdict
+    ensures { λ r. ⌜ r ≡ judge passes number offset ⌝ }
+{
+    if passes {
+        return Verdict::Fine;
+    }
+    Verdict::Fault { number, offset }
+}
+
+pub fn both(a: bool, b: bool) -> bool
+    ensures { λ r. ⌜ r ≡ (a && b) ⌝ }
+{
+    if a { b } else { false }
+}
+
+pub fn either(a: bool, b: bool) -> bool
+    ensures { λ r. ⌜ r ≡ (a || b) ⌝ }
+{
+    if a { true } else { b }
+}
+
+pub fn negated(a: bool) -> bool
+    ensures { λ r. ⌜ r ≡ not a ⌝ }
+{
+    if a { false } else { true }
+}
+
+// The index at `i`, 0 past the end.
+pub fn index(s: &[usize], i: usize) -> usize
+    ensures { λ r. ⌜ r ≡ getD (now (s .entry)) i 0 ⌝ }
+{
+    if i < s.len() { s[i] } else { 0 }
+}
+
+pub fn none() -> Names
+    ensures { λ r. ⌜ r ≡ noNames ⌝ }
+{
+    Names {
+        cells: [0usize; 144],
+        used: 0,
+    }
+}
+
+// One name more.
+pub fn push(sc: Names, x: usize) -> Names
+    ensures { λ r. ⌜ r ≡ push sc x ⌝ }
+{
+    let used = sc.used;
+    if used < 144 {
+        let mut cells = sc.cells;
+        cells[used] = x;
+        return Names {
+            cells: cells,
+            used: used + 1,
+        };
+    }
+    sc
+}

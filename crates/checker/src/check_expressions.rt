@@ -1,0 +1,243 @@
+// The check of expressions by their tokens: 8 and 9 (01, "From the input"). `cells`, `used` of them, are the names in reach.
+use crate::check::Args;
+use crate::check::Verdict;
+use crate::check::Walked;
+use crate::check::both;
+use crate::check::first;
+use crate::check::index;
+use crate::check::judge;
+use crate::check::negated;
+use crate::places::ahead;
+use crate::places::key;
+use crate::places::kind;
+use crate::places::num;
+use crate::places::offset;
+use lexer::keys::ANAME;
+use lexer::keys::CLOSE_LIST;
+use lexer::keys::ENAME;
+use lexer::keys::OPEN;
+use lexer::keys::SYMBOL;
+ghost use mathlib.Core.Path.{_≡_};
+ghost use Rattle.checker.specs.CheckStored.{sameName, isNamed, leafAt, expAt, pairAt, atomicAt, eaAt, argAt, argsAt};
+
+// "`e.x` and `a.x` are two variables."
+fn same_name(marks: &[u16], nums: &[u16], n: usize, i: usize, j: usize) -> bool
+    ensures { λ r. ⌜ r ≡ sameName (now (marks .entry)) (now (nums .entry)) (now (nums .entry)) n i j ⌝ }
+{
+    both(
+        kind(marks, n, i) == kind(marks, n, j),
+        num(nums, n, i) == num(nums, n, j),
+    )
+}
+
+// Whether the name at `i` is among the first `used` of `cells`.
+pub(crate) fn is_named(
+    marks: &[u16],
+    nums: &[u16],
+    n: usize,
+    cells: &[usize],
+    used: usize,
+    i: usize,
+) -> bool
+    ensures { λ r. ⌜ r ≡ isNamed (now (marks .entry)) (now (nums .entry)) (now (nums .entry)) n (now (cells .entry)) used i ⌝ }
+{
+    if used == 0 {
+        return false;
+    }
+    let j = index(cells, used - 1);
+    if same_name(marks, nums, n, j, i) {
+        return true;
+    }
+    is_named(marks, nums, n, cells, used - 1, i)
+}
+
+// An e of one token: "9 variable not in reach".
+pub(crate) fn leaf(
+    marks: &[u16],
+    nums: &[u16],
+    ats: &[u16],
+    n: usize,
+    cells: &[usize],
+    used: usize,
+    i: usize,
+) -> Walked
+    ensures { λ r. ⌜ r ≡ leafAt (now (marks .entry)) (now (nums .entry)) (now (ats .entry)) n (now (cells .entry)) used i ⌝ }
+{
+    let past = ahead(n, 1, i);
+    if kind(marks, n, i) == SYMBOL {
+        return Walked {
+            past: past,
+            names: Verdict::Fine,
+            uses: Verdict::Fine,
+        };
+    }
+    let reached = is_named(marks, nums, n, cells, used, i);
+    Walked {
+        past: past,
+        names: Verdict::Fine,
+        uses: judge(reached, 9, offset(ats, n, i)),
+    }
+}
+
+// An e: "`(cons e e)`, xe or ea".
+pub(crate) fn exp(
+    marks: &[u16],
+    nums: &[u16],
+    ats: &[u16],
+    n: usize,
+    room: usize,
+    cells: &[usize],
+    used: usize,
+    i: usize,
+) -> Walked
+    ensures { λ r. ⌜ r ≡ expAt (now (marks .entry)) (now (nums .entry)) (now (ats .entry)) n room (now (cells .entry)) used i ⌝ }
+{
+    if room == 0 {
+        return leaf(marks, nums, ats, n, cells, used, i);
+    }
+    if key(marks, n, i) == OPEN {
+        let c = exp(marks, nums, ats, n, room - 1, cells, used, ahead(n, 2, i));
+        let next = c.past;
+        let d = exp(marks, nums, ats, n, room - 1, cells, used, next);
+        let end = d.past;
+        let u = c.uses;
+        let v = d.uses;
+        return Walked {
+            past: ahead(n, 1, end),
+            names: Verdict::Fine,
+            uses: first(u, v),
+        };
+    }
+    leaf(marks, nums, ats, n, cells, used, i)
+}
+
+// "`(cons e e)`".
+pub(crate) fn pair(
+    marks: &[u16],
+    nums: &[u16],
+    ats: &[u16],
+    n: usize,
+    room: usize,
+    cells: &[usize],
+    used: usize,
+    i: usize,
+) -> Walked
+    ensures { λ r. ⌜ r ≡ pairAt (now (marks .entry)) (now (nums .entry)) (now (ats .entry)) n room (now (cells .entry)) used i ⌝ }
+{
+    let c = exp(marks, nums, ats, n, room, cells, used, ahead(n, 2, i));
+    let next = c.past;
+    let d = exp(marks, nums, ats, n, room, cells, used, next);
+    let end = d.past;
+    let u = c.uses;
+    let v = d.uses;
+    Walked {
+        past: ahead(n, 1, end),
+        names: Verdict::Fine,
+        uses: first(u, v),
+    }
+}
+
+fn atomic(marks: &[u16], n: usize, i: usize) -> bool
+    ensures { λ r. ⌜ r ≡ atomicAt (now (marks .entry)) (now (marks .entry)) (now (marks .entry)) n i ⌝ }
+{
+    both(
+        negated(key(marks, n, i) == OPEN),
+        negated(kind(marks, n, i) == ENAME),
+    )
+}
+
+// "8 not atomic where an ea is due", then 9.
+pub(crate) fn ea(
+    marks: &[u16],
+    nums: &[u16],
+    ats: &[u16],
+    n: usize,
+    room: usize,
+    cells: &[usize],
+    used: usize,
+    i: usize,
+) -> Walked
+    ensures { λ r. ⌜ r ≡ eaAt (now (marks .entry)) (now (nums .entry)) (now (ats .entry)) n room (now (cells .entry)) used i ⌝ }
+{
+    let c = exp(marks, nums, ats, n, room, cells, used, i);
+    let end = c.past;
+    let u = c.uses;
+    let v = judge(atomic(marks, n, i), 8, offset(ats, n, i));
+    Walked {
+        past: end,
+        names: Verdict::Fine,
+        uses: first(v, u),
+    }
+}
+
+// "A parameter `a.NAME` takes only an ea": the parameter stands at `p`, the argument at `i`.
+fn arg(
+    marks: &[u16],
+    nums: &[u16],
+    ats: &[u16],
+    n: usize,
+    room: usize,
+    cells: &[usize],
+    used: usize,
+    p: usize,
+    i: usize,
+) -> Walked
+    ensures { λ r. ⌜ r ≡ argAt (now (marks .entry)) (now (nums .entry)) (now (ats .entry)) n room (now (cells .entry)) used p i ⌝ }
+{
+    if kind(marks, n, p) == ANAME {
+        return ea(marks, nums, ats, n, room, cells, used, i);
+    }
+    exp(marks, nums, ats, n, room, cells, used, i)
+}
+
+// The arguments from `i` on, the parameters from `p` on: `fits` is whether they are as many so far, `uses` the first fault so far.
+pub(crate) fn args(
+    marks: &[u16],
+    nums: &[u16],
+    ats: &[u16],
+    n: usize,
+    fuel: usize,
+    room: usize,
+    cells: &[usize],
+    used: usize,
+    p: usize,
+    fits: bool,
+    uses: Verdict,
+    i: usize,
+) -> Args
+    ensures { λ r. ⌜ r ≡ argsAt (now (marks .entry)) (now (nums .entry)) (now (ats .entry)) n fuel room (now (cells .entry)) used p fits uses i ⌝ }
+{
+    if fuel == 0 {
+        return Args {
+            past: i,
+            fits: false,
+            uses: uses,
+        };
+    }
+    let closes = key(marks, n, p) == CLOSE_LIST;
+    if key(marks, n, i) == CLOSE_LIST {
+        return Args {
+            past: i,
+            fits: both(fits, closes),
+            uses: uses,
+        };
+    }
+    let c = arg(marks, nums, ats, n, room, cells, used, p, i);
+    let next = c.past;
+    let u = c.uses;
+    let as_many = both(fits, negated(closes));
+    args(
+        marks,
+        nums,
+        ats,
+        n,
+        fuel - 1,
+        room,
+        cells,
+        used,
+        ahead(n, 1, p),
+        as_many,
+        first(uses, u),
+        next,
+    )
+}

@@ -1,0 +1,232 @@
+// The check of terms by their tokens: 6 in `cons?`, 7, 8, 9 (01, "From the input"). `heads`, `count` of them, are the definitions, each by
+// the index of its name.
+use crate::check::Names;
+use crate::check::Verdict;
+use crate::check::Walked;
+use crate::check::both;
+use crate::check::first;
+use crate::check::index;
+use crate::check::judge;
+use crate::check::negated;
+use crate::check::push;
+use crate::check_expressions::args;
+use crate::check_expressions::ea;
+use crate::check_expressions::exp;
+use crate::check_expressions::leaf;
+use crate::check_expressions::pair;
+use crate::places::ahead;
+use crate::places::key;
+use crate::places::num;
+use crate::places::offset;
+use lexer::keys::CALL;
+use lexer::keys::EQA;
+use lexer::keys::IF;
+use lexer::keys::OPEN;
+ghost use mathlib.Core.Path.{_≡_};
+ghost use Prim.Native.Nat.{_-_};
+ghost use Rattle.checker.specs.CheckStored.{placeAt, callAt, termAt, eqaAt, conspAt};
+
+// The number of the function with the name `x`, from number `j` on: `count` where there is none.
+fn place(nums: &[u16], n: usize, heads: &[usize], count: usize, j: usize, x: u16) -> usize
+    ensures { λ r. ⌜ r ≡ placeAt (now (nums .entry)) (now (nums .entry)) (now (nums .entry)) n (now (heads .entry)) (count - j) j x ⌝ }
+{
+    if count <= j {
+        return j;
+    }
+    let h = index(heads, j);
+    if num(nums, n, h) == x {
+        return j;
+    }
+    place(nums, n, heads, count, j + 1, x)
+}
+
+// The number of the function with the name `x`.
+pub(crate) fn find(nums: &[u16], n: usize, heads: &[usize], count: usize, x: u16) -> usize
+    ensures { λ r. ⌜ r ≡ placeAt (now (nums .entry)) (now (nums .entry)) (now (nums .entry)) n (now (heads .entry)) count 0 x ⌝ }
+{
+    place(nums, n, heads, count, 0, x)
+}
+
+// "`(call F [e ..])`": "7 call of an unknown function, or a wrong number of arguments".
+fn call(
+    marks: &[u16],
+    nums: &[u16],
+    ats: &[u16],
+    n: usize,
+    heads: &[usize],
+    count: usize,
+    room: usize,
+    cells: &[usize],
+    used: usize,
+    i: usize,
+) -> Walked
+    ensures { λ r. ⌜ r ≡ callAt (now (marks .entry)) (now (nums .entry)) (now (ats .entry)) n (now (heads .entry)) count room (now (cells .entry)) used i ⌝ }
+{
+    let f = ahead(n, 2, i);
+    let g = find(nums, n, heads, count, num(nums, n, f));
+    let p = ahead(n, 2, index(heads, g));
+    let c = args(
+        marks,
+        nums,
+        ats,
+        n,
+        n,
+        room,
+        cells,
+        used,
+        p,
+        true,
+        Verdict::Fine,
+        ahead(n, 4, i),
+    );
+    let end = c.past;
+    let fits = c.fits;
+    let u = c.uses;
+    let v = judge(both(g < count, fits), 7, offset(ats, n, f));
+    Walked {
+        past: ahead(n, 2, end),
+        names: Verdict::Fine,
+        uses: first(v, u),
+    }
+}
+
+// "`(if (eqa? ea ea) t t)`", behind whose bracket `room` brackets may be opened.
+fn eqa(
+    marks: &[u16],
+    nums: &[u16],
+    ats: &[u16],
+    n: usize,
+    heads: &[usize],
+    count: usize,
+    room: usize,
+    sc: Names,
+    i: usize,
+) -> Walked
+    ensures { λ r. ⌜ r ≡ eqaAt (now (marks .entry)) (now (nums .entry)) (now (ats .entry)) n (now (heads .entry)) count room sc i ⌝ }
+{
+    let used = sc.used;
+    let c = ea(marks, nums, ats, n, room, &sc.cells, used, ahead(n, 4, i));
+    let c_past = c.past;
+    let d = ea(marks, nums, ats, n, room, &sc.cells, used, c_past);
+    let d_past = d.past;
+    let s = term(
+        marks,
+        nums,
+        ats,
+        n,
+        heads,
+        count,
+        room,
+        sc,
+        ahead(n, 1, d_past),
+    );
+    let s_past = s.past;
+    let u = term(marks, nums, ats, n, heads, count, room, sc, s_past);
+    let u_past = u.past;
+    let s_names = s.names;
+    let u_names = u.names;
+    let c_uses = c.uses;
+    let d_uses = d.uses;
+    let s_uses = s.uses;
+    let u_uses = u.uses;
+    Walked {
+        past: ahead(n, 1, u_past),
+        names: first(s_names, u_names),
+        uses: first(c_uses, first(d_uses, first(s_uses, u_uses))),
+    }
+}
+
+// "`(if (cons? e xe xe xa) t t)`": "The true branch of `cons?` has its two xe, the false branch its xa, neither the other's."
+fn consp(
+    marks: &[u16],
+    nums: &[u16],
+    ats: &[u16],
+    n: usize,
+    heads: &[usize],
+    count: usize,
+    room: usize,
+    sc: Names,
+    i: usize,
+) -> Walked
+    ensures { λ r. ⌜ r ≡ conspAt (now (marks .entry)) (now (nums .entry)) (now (ats .entry)) n (now (heads .entry)) count room sc i ⌝ }
+{
+    let used = sc.used;
+    let c = exp(marks, nums, ats, n, room, &sc.cells, used, ahead(n, 4, i));
+    let h = c.past;
+    let t = ahead(n, 1, h);
+    let x = ahead(n, 2, h);
+    let s = term(
+        marks,
+        nums,
+        ats,
+        n,
+        heads,
+        count,
+        room,
+        push(push(sc, h), t),
+        ahead(n, 4, h),
+    );
+    let s_past = s.past;
+    let u = term(marks, nums, ats, n, heads, count, room, push(sc, x), s_past);
+    let u_past = u.past;
+    let s_names = s.names;
+    let u_names = u.names;
+    let c_uses = c.uses;
+    let s_uses = s.uses;
+    let u_uses = u.uses;
+    let two = judge(
+        negated(num(nums, n, h) == num(nums, n, t)),
+        6,
+        offset(ats, n, t),
+    );
+    Walked {
+        past: ahead(n, 1, u_past),
+        names: first(two, first(s_names, u_names)),
+        uses: first(c_uses, first(s_uses, u_uses)),
+    }
+}
+
+// A t: "`(call F [e ..])`, `(if k t t)` or e".
+pub(crate) fn term(
+    marks: &[u16],
+    nums: &[u16],
+    ats: &[u16],
+    n: usize,
+    heads: &[usize],
+    count: usize,
+    room: usize,
+    sc: Names,
+    i: usize,
+) -> Walked
+    ensures { λ r. ⌜ r ≡ termAt (now (marks .entry)) (now (nums .entry)) (now (ats .entry)) n (now (heads .entry)) count room sc i ⌝ }
+{
+    let used = sc.used;
+    if room == 0 {
+        return leaf(marks, nums, ats, n, &sc.cells, used, i);
+    }
+    if key(marks, n, i) == OPEN {
+        let form = key(marks, n, ahead(n, 1, i));
+        if form == CALL {
+            return call(
+                marks,
+                nums,
+                ats,
+                n,
+                heads,
+                count,
+                room - 1,
+                &sc.cells,
+                used,
+                i,
+            );
+        }
+        if form == IF {
+            if key(marks, n, ahead(n, 3, i)) == EQA {
+                return eqa(marks, nums, ats, n, heads, count, room - 1, sc, i);
+            }
+            return consp(marks, nums, ats, n, heads, count, room - 1, sc, i);
+        }
+        return pair(marks, nums, ats, n, room - 1, &sc.cells, used, i);
+    }
+    leaf(marks, nums, ats, n, &sc.cells, used, i)
+}

@@ -1,0 +1,4 @@
+pub mod ConfigurationCells
+pub mod ContractCells
+pub mod LookCells
+pub mod OutputCells

@@ -1,0 +1,3 @@
+pub mod StoredReaders
+pub mod TermReaders
+pub mod TextReaders

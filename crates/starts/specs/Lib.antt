@@ -1,0 +1,2 @@
+pub mod DatumCells
+pub mod StartCells

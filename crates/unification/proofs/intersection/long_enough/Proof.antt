@@ -1,0 +1,19 @@
+-- `long_enough` tests one storage after the other.
+use borrow.Author.Tests.{lt-ltb, le-ltb}
+use Rattle.unification.proofs.intersection.long_enough.Statement.{statement}
+use Rattle.unification.proofs.intersection.long_enough.Tie as tie
+
+returns : tie.Need-returns
+returns c = rw (lt-ltb _ _ (c .if1 .taken))
+
+returns-2 : tie.Need-returns-2
+returns-2 c = rw (le-ltb _ _ (c .before .if1 .left), lt-ltb _ _ (c .if2 .taken))
+
+returns-3 : tie.Need-returns-3
+returns-3 c = rw (le-ltb _ _ (c .before .before .if1 .left), le-ltb _ _ (c .before .if2 .left), lt-ltb _ _ (c .if3 .taken))
+
+returns-4 : tie.Need-returns-4
+returns-4 c = rw (le-ltb _ _ (c .before .before .if1 .left), le-ltb _ _ (c .before .if2 .left), le-ltb _ _ (c .if3 .left))
+
+pub long-enough-spec : {M : Type 1} → statement M
+long-enough-spec = tie.close (tie.spec returns returns-2 returns-3 returns-4)

@@ -1,0 +1,2 @@
+pub mod Disagreeing
+pub mod Meeting

@@ -1,0 +1,4 @@
+pub mod Sink
+pub mod TreeText
+pub mod LineText
+pub mod OutcomeText

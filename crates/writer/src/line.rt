@@ -1,0 +1,128 @@
+// "Each line: its number, its steps", its bindings and its non-equalities. In storage a line has its steps, how many cells its inputs and
+// its output have, how many non-equalities there are, then the cells of the inputs, of the output, and two for each non-equality.
+use crate::binding::put_bindings;
+use crate::digit::put_digits;
+use crate::leaf::put_leaf;
+use crate::parts::ahead;
+use crate::parts::part;
+use crate::parts::rest;
+use crate::sink::Place;
+use crate::sink::put_byte;
+use crate::sink::put_text;
+use sets::cell;
+ghost use mathlib.Core.Path.{_≡_};
+ghost use mathlib.Core.List.{_++_, _∷_};
+ghost use Rattle.listing.specs.Print.{digits};
+ghost use Rattle.writer.specs.Sink.{sink, puts};
+ghost use Rattle.writer.specs.TreeText.{symbolText};
+ghost use Rattle.writer.specs.LineText.{nonEqualityText, restrictionText, classEnd, lineEnd, lineText, linesText};
+
+// ` # L R`
+fn put_non_equality(
+    out: &mut [u8],
+    place: Place,
+    program: &[u8],
+    job: &[u8],
+    symbols: &[u16],
+    left: u16,
+    right: u16,
+) -> Place
+    ensures { λ r. ⌜ sink r (now (out .exit)) ≡ puts (sink place (now (out .entry))) (nonEqualityText (symbolText (now (program .entry)) (now (job .entry)) (now (symbols .entry))) left right) ⌝ }
+{
+    let p = put_text(out, place, b" # ");
+    let l = put_leaf(out, p, program, job, symbols, left);
+    let b = put_byte(out, l, b' ');
+    put_leaf(out, b, program, job, symbols, right)
+}
+
+// "then ` # L R` for each non-equality, oldest first"
+fn put_restriction(
+    out: &mut [u8],
+    place: Place,
+    program: &[u8],
+    job: &[u8],
+    symbols: &[u16],
+    q: &[u16],
+) -> Place
+    ensures { λ r. ⌜ sink r (now (out .exit)) ≡ puts (sink place (now (out .entry))) (restrictionText (symbolText (now (program .entry)) (now (job .entry)) (now (symbols .entry))) (now (q .entry))) ⌝ }
+{
+    let mut p = place;
+    let mut i: usize = 0;
+    while 2 <= q.len() - i {
+        p = put_non_equality(out, p, program, job, symbols, q[i], q[i + 1]);
+        i += 2;
+    }
+    p
+}
+
+// The place behind the inputs and the output of the line.
+fn class_end(line: &[u16]) -> usize
+    ensures { λ r. ⌜ r ≡ classEnd (now (line .entry)) ⌝ }
+{
+    4 + cell::cell(line, 1) as usize + cell::cell(line, 2) as usize
+}
+
+// The place behind the line.
+fn line_end(line: &[u16]) -> usize
+    ensures { λ r. ⌜ r ≡ lineEnd (now (line .entry)) ⌝ }
+{
+    4
+        + cell::cell(line, 1) as usize
+        + cell::cell(line, 2) as usize
+        + 2 * cell::cell(line, 3) as usize
+}
+
+// Two numbers with a blank between.
+pub fn put_numbers(out: &mut [u8], place: Place, m: usize, n: usize) -> Place
+    ensures { λ r. ⌜ sink r (now (out .exit)) ≡ puts (sink place (now (out .entry))) (digits m ++ (32 ∷ digits n)) ⌝ }
+{
+    let p = put_digits(out, place, m);
+    let b = put_byte(out, p, b' ');
+    put_digits(out, b, n)
+}
+
+// The first line of `line`, as number i.
+fn put_line(
+    out: &mut [u8],
+    place: Place,
+    program: &[u8],
+    job: &[u8],
+    symbols: &[u16],
+    io: &[u16],
+    i: usize,
+    line: &[u16],
+) -> Place
+    ensures { λ r. ⌜ sink r (now (out .exit)) ≡ puts (sink place (now (out .entry))) (lineText (symbolText (now (program .entry)) (now (job .entry)) (now (symbols .entry))) (now (io .entry)) i (now (line .entry))) ⌝ }
+{
+    let m = class_end(line);
+    let n = line_end(line);
+    let p = put_numbers(out, place, i, cell::cell(line, 0) as usize);
+    let b = put_bindings(out, p, program, job, symbols, io, part(line, 4, m));
+    let q = put_restriction(out, b, program, job, symbols, part(line, m, n));
+    put_byte(out, q, b'\n')
+}
+
+// As many lines, one behind the other.
+pub fn put_lines(
+    out: &mut [u8],
+    place: Place,
+    program: &[u8],
+    job: &[u8],
+    symbols: &[u16],
+    io: &[u16],
+    lines: usize,
+    answer: &[u16],
+) -> Place
+    ensures { λ r. ⌜ sink r (now (out .exit)) ≡ puts (sink place (now (out .entry))) (linesText (symbolText (now (program .entry)) (now (job .entry)) (now (symbols .entry))) (now (io .entry)) lines 0 (now (answer .entry))) ⌝ }
+{
+    let mut p = place;
+    let mut i: usize = 0;
+    let mut at: usize = 0;
+    while i < lines {
+        let line = rest(answer, at);
+        i += 1;
+        p = put_line(out, p, program, job, symbols, io, i, line);
+        at = ahead(at, line_end(line), answer.len());
+    }
+    p
+}
