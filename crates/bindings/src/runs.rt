@@ -1,94 +1,18 @@
 // A run of two texts, and its print.
 use crate::numbers::store;
+use answers::run::answer_from;
+use answers::run::case_of;
+use answers::run::first_of;
+use answers::run::second_of;
 use print::ran::print_run;
 use resolve::run;
-use resolve::run::Answer;
 ghost use mathlib.Core.Path.{_≡_};
 ghost use Prim.Native.Nat.{_-_, min};
 ghost use lib.ListN.{length, set};
 ghost use Rattle.resolve.specs.RunAnswer.{runLeft};
 ghost use Rattle.writer.specs.Sink.{windowed};
 ghost use Rattle.print.specs.RanText.{ranText};
-ghost use Rattle.bindings.specs.RunNumbers.{caseOf, firstOf, secondOf, answerFrom};
-
-fn case_of(a: Answer) -> usize
-    ensures { λ r. ⌜ r ≡ caseOf a ⌝ }
-{
-    match a {
-        Answer::Value {
-            steps: _,
-            length: _,
-        } => 0,
-        Answer::Over => 1,
-        Answer::NotWithin => 2,
-        Answer::Program {
-            number: _,
-            offset: _,
-        } => 3,
-        Answer::Job {
-            number: _,
-            offset: _,
-        } => 4,
-        Answer::Short => 5,
-    }
-}
-
-fn first_of(a: Answer) -> usize
-    ensures { λ r. ⌜ r ≡ firstOf a ⌝ }
-{
-    match a {
-        Answer::Value { steps, length: _ } => steps,
-        Answer::Over => 0,
-        Answer::NotWithin => 0,
-        Answer::Program { number, offset: _ } => number,
-        Answer::Job { number, offset: _ } => number,
-        Answer::Short => 20,
-    }
-}
-
-fn second_of(a: Answer) -> usize
-    ensures { λ r. ⌜ r ≡ secondOf a ⌝ }
-{
-    match a {
-        Answer::Value { steps: _, length } => length,
-        Answer::Over => 0,
-        Answer::NotWithin => 0,
-        Answer::Program { number: _, offset } => offset,
-        Answer::Job { number: _, offset } => offset,
-        Answer::Short => 0,
-    }
-}
-
-// The answer of a case and its two numbers; any other case is 20.
-fn answer_from(kind: usize, first: usize, second: usize) -> Answer
-    ensures { λ r. ⌜ r ≡ answerFrom kind first second ⌝ }
-{
-    if kind == 0 {
-        return Answer::Value {
-            steps: first,
-            length: second,
-        };
-    }
-    if kind == 1 {
-        return Answer::Over;
-    }
-    if kind == 2 {
-        return Answer::NotWithin;
-    }
-    if kind == 3 {
-        return Answer::Program {
-            number: first,
-            offset: second,
-        };
-    }
-    if kind == 4 {
-        return Answer::Job {
-            number: first,
-            offset: second,
-        };
-    }
-    Answer::Short
-}
+ghost use Rattle.answers.specs.RunNumbers.{caseOf, firstOf, secondOf, answerFrom};
 
 // `resolve::run`: the case of its answer, and in `said` the two numbers of the case.
 #[no_mangle]

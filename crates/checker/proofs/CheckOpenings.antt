@@ -16,6 +16,12 @@ use Rattle.checker.specs.CheckAt.{first, ahead, arguments, noNames, push
 pub less : (k : ℕ) → suc k - 1 ≡ k
 less k = omega arith
 
+pub not-zero : (k : ℕ) → 0 < k → k ≡ 0 → ⊥
+not-zero k h e = omega arith
+
+pub is-zero : (k : ℕ) → k ≤ 0 → k ≡ 0
+is-zero k h = omega arith
+
 pub named-none : {u : ℕ} → u ≡ 0 → (kind num : ℕ → ℕ) (cells : List ℕ) (i : ℕ) → isNamed kind num cells u i ≡ false
 unfolding isNamed
 named-none e kind num cells i = rw e
@@ -51,6 +57,9 @@ args-more {k = suc k} f key kind num at n room sc p b v i = rw (less k)
 pub counted-out : (c j : ℕ) → c ≤ j → c - j ≡ 0
 counted-out c j l = omega arith
 
+pub whole-count : (c : ℕ) → c - 0 ≡ c
+whole-count c = omega arith
+
 pub counted-on : (c j : ℕ) → j < c → c - j ≡ suc (c - (j + 1))
 counted-on c j l = omega arith
 
@@ -74,15 +83,15 @@ unfolding termAt
 term-more {k = zero} f key kind num at n heads count sc i = absurd (f refl)
 term-more {k = suc k} f key kind num at n heads count sc i = rw (less k)
 
-pub params-none : {k : ℕ} → k ≡ 0 → (key : ℕ → ℕ) (n i : ℕ) → paramsAt key n k i ≡ noNames
+pub params-none : {k : ℕ} → k ≡ 0 → (key : ℕ → ℕ) (n : ℕ) (sc : Names) (i : ℕ) → paramsAt key n k sc i ≡ sc
 unfolding paramsAt
-params-none e key n i = rw e
+params-none e key n sc i = rw e
 
-pub params-more : {k : ℕ} → (k ≡ 0 → ⊥) → (key : ℕ → ℕ) (n i : ℕ) →
-    paramsAt key n k i ≡ cond (eqb (key i) 4) noNames (push (paramsAt key n (k - 1) (ahead n 1 i)) i)
+pub params-more : {k : ℕ} → (k ≡ 0 → ⊥) → (key : ℕ → ℕ) (n : ℕ) (sc : Names) (i : ℕ) →
+    paramsAt key n k sc i ≡ cond (eqb (key i) 4) sc (paramsAt key n (k - 1) (push sc i) (ahead n 1 i))
 unfolding paramsAt
-params-more {k = zero} f key n i = absurd (f refl)
-params-more {k = suc k} f key n i = rw (less k)
+params-more {k = zero} f key n sc i = absurd (f refl)
+params-more {k = suc k} f key n sc i = rw (less k)
 
 pub end-none : {k : ℕ} → k ≡ 0 → (key : ℕ → ℕ) (n i : ℕ) → paramsEnd key n k i ≡ i
 unfolding paramsEnd

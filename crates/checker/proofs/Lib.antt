@@ -1,1 +1,2 @@
 pub mod CheckOpenings
+pub mod ReachLaws

@@ -1,7 +1,8 @@
 -- The check of a program by position: what a check comes to that builds nothing and keeps an index into the tokens of a text that was
 -- read without refusal. A function of the code that checks has one of these for its contract.
--- proofs/ProgramLaws.antt: they find what specs/ProgramCheck.antt finds.
-use Prim.Native.Nat.{ℕ, zero, suc, _+_, _-_}
+-- syntax/proofs/ProgramLaws.antt: they find what language/specs/ProgramCheck.antt finds.
+use Prim.Native.Nat.{ℕ, zero, suc, _+_, _-_, _<_}
+use mathlib.Core.Path.{_≡_}
 use Prim.Native.String.{String}
 use mathlib.Core.Bool.{Bool, true, false, cond, _&&_, _||_, not}
 use mathlib.Core.List.{List, [], _∷_}
@@ -36,12 +37,24 @@ walked k v w = record { past = k; names = v; uses = w }
 abbrev pub arguments : ℕ → Bool → Verdict → Args
 arguments k b v = record { past = k; fits = b; uses = v }
 
+abbrev pub names : List ℕ → ℕ → Names
+names cells used = record { cells = cells; used = used }
+
+-- the first u cells are what they were
+pub record Kept (u : ℕ) (a b : List ℕ) : Type 0 where
+  pub size : length b ≡ length a
+  pub same : (j : ℕ) → j < u → getD b j 0 ≡ getD a j 0
+
 abbrev pub noNames : Names
 noNames = record { cells = replicate 144 0; used = 0 }
 
 -- one name more
 abbrev pub push : Names → ℕ → Names
 push sc x = cond (ltb (sc .used) 144) (record { cells = set (sc .cells) (sc .used) x; used = sc .used + 1 }) sc
+
+-- b, v of them used, is what one name more makes of a, u of them used
+pub record Put (a : List ℕ) (u x : ℕ) (b : List ℕ) (v : ℕ) : Type 0 where
+  pub is : names b v ≡ push (names a u) x
 
 abbrev pub pick : Bool → (ℕ → Walked) → (ℕ → Walked) → ℕ → Walked
 pick true p q i = p i
@@ -79,10 +92,10 @@ module _ (num : ℕ → ℕ) where
   placeAt heads (suc left) j x = cond (eqb (num (getD heads j 0)) x) j (placeAt heads left (j + 1) x)
 
 module _ (key : ℕ → ℕ) (n : ℕ) where
-  -- the names of the parameters from i on
-  unfoldable pub paramsAt : ℕ → ℕ → Names
-  paramsAt zero i = noNames
-  paramsAt (suc room) i = cond (eqb (key i) (keyOf (txt "]"))) noNames (push (paramsAt room (ahead n 1 i)) i)
+  -- the names of the parameters from i on, behind those that are there
+  unfoldable pub paramsAt : ℕ → Names → ℕ → Names
+  paramsAt zero sc i = sc
+  paramsAt (suc room) sc i = cond (eqb (key i) (keyOf (txt "]"))) sc (paramsAt room (push sc i) (ahead n 1 i))
 
   -- the index of the bracket that closes them
   unfoldable pub paramsEnd : ℕ → ℕ → ℕ
@@ -212,7 +225,7 @@ module _ (key kind num at : ℕ → ℕ) (n : ℕ) where
   abbrev pub bodyAt : List ℕ → ℕ → ℕ → Verdict
   bodyAt heads count h =
       let p = ahead n 2 h in
-      termAt heads count 63 (paramsAt key n 16 p) (ahead n 1 (paramsEnd key n 16 p)) .uses
+      termAt heads count 63 (paramsAt key n 16 noNames p) (ahead n 1 (paramsEnd key n 16 p)) .uses
 
   -- and in those of the definitions from number j on
   unfoldable pub bodiesAt : List ℕ → ℕ → ℕ → ℕ → Verdict

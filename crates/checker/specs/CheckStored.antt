@@ -4,14 +4,12 @@ use mathlib.Core.Bool.{Bool}
 use mathlib.Core.List.{List}
 use Rattle.checker.specs.StoredAt.{keyAt, tagAt, numAt, atAt}
 use Rattle.checker.specs.CheckAt as at
+use Rattle.checker.specs.CheckAt.{names}
 use Rattle.checker.specs.declared.check.Verdict.{Verdict}
 use Rattle.checker.specs.declared.check.Walked.{Walked}
 use Rattle.checker.specs.declared.check.Args.{Args}
 use Rattle.checker.specs.declared.check.Names.{Names}
 use Rattle.checker.specs.declared.check.Defs.{Defs}
-
-abbrev pub names : List ℕ → ℕ → Names
-names cells used = record { cells = cells; used = used }
 
 module _ (marks nums ats : List ℕ) (n : ℕ) where
   abbrev pub sameName : ℕ → ℕ → Bool
@@ -56,8 +54,8 @@ module _ (marks nums ats : List ℕ) (n : ℕ) where
   abbrev pub conspAt : List ℕ → ℕ → ℕ → Names → ℕ → Walked
   conspAt heads count room sc i = at.conspAt (keyAt marks n) (tagAt marks n) (numAt nums n) (atAt ats n) n heads count (λ sc k. termAt heads count room sc k) room sc i
 
-  abbrev pub paramsAt : ℕ → ℕ → Names
-  paramsAt room i = at.paramsAt (keyAt marks n) n room i
+  abbrev pub paramsAt : ℕ → Names → ℕ → Names
+  paramsAt room sc i = at.paramsAt (keyAt marks n) n room sc i
 
   abbrev pub paramsEnd : ℕ → ℕ → ℕ
   paramsEnd room i = at.paramsEnd (keyAt marks n) n room i

@@ -2,7 +2,7 @@
 ghost use mathlib.Core.Path.{_≡_};
 ghost use mathlib.Core.Bool.{_&&_, _||_, not};
 ghost use lib.ListN.{getD};
-ghost use Rattle.checker.specs.CheckAt.{first, judge, push, noNames};
+ghost use Rattle.checker.specs.CheckAt.{first, judge, Put, push, noNames};
 
 // What a check finds: nothing, or the first fault.
 pub enum Verdict {
@@ -24,7 +24,8 @@ pub struct Args {
     pub uses: Verdict,
 }
 
-// The names in reach, latest last, each by the index of a token that has it: 16 parameters, and two names for each of 64 open brackets.
+// The names in reach, latest last, each by the index of a token that has it: 16 parameters, and two names for each of 64 open brackets. A
+// walk is lent the cells and handed how many of them are used, so that no bracket that it opens takes a copy of them.
 pub struct Names {
     pub cells: [usize; 144],
     pub used: usize,
@@ -90,6 +91,17 @@ pub fn none() -> Names
         cells: [0usize; 144],
         used: 0,
     }
+}
+
+// One name more, in cells that are lent: how many are used then.
+pub(crate) fn put(cells: &mut [usize; 144], used: usize, x: usize) -> usize
+    ensures { λ r. ⌜ Put (now (cells .entry)) used x (now (cells .exit)) r ⌝ }
+{
+    if used < 144 {
+        cells[used] = x;
+        return used + 1;
+    }
+    used
 }
 
 // One name more.

@@ -41,14 +41,15 @@ pub(crate) fn is_named(
 ) -> bool
     ensures { λ r. ⌜ r ≡ isNamed (now (marks .entry)) (now (nums .entry)) (now (nums .entry)) n (now (cells .entry)) used i ⌝ }
 {
-    if used == 0 {
-        return false;
+    let mut left = used;
+    while 0 < left {
+        left -= 1;
+        let j = index(cells, left);
+        if same_name(marks, nums, n, j, i) {
+            return true;
+        }
     }
-    let j = index(cells, used - 1);
-    if same_name(marks, nums, n, j, i) {
-        return true;
-    }
-    is_named(marks, nums, n, cells, used - 1, i)
+    false
 }
 
 // An e of one token: "9 variable not in reach".
@@ -207,37 +208,32 @@ pub(crate) fn args(
 ) -> Args
     ensures { λ r. ⌜ r ≡ argsAt (now (marks .entry)) (now (nums .entry)) (now (ats .entry)) n fuel room (now (cells .entry)) used p fits uses i ⌝ }
 {
-    if fuel == 0 {
-        return Args {
-            past: i,
-            fits: false,
-            uses: uses,
-        };
+    let mut left = fuel;
+    let mut param = p;
+    let mut as_many = fits;
+    let mut fault = uses;
+    let mut at = i;
+    while 0 < left {
+        let closes = key(marks, n, param) == CLOSE_LIST;
+        if key(marks, n, at) == CLOSE_LIST {
+            return Args {
+                past: at,
+                fits: both(as_many, closes),
+                uses: fault,
+            };
+        }
+        let c = arg(marks, nums, ats, n, room, cells, used, param, at);
+        let next = c.past;
+        let u = c.uses;
+        param = ahead(n, 1, param);
+        as_many = both(as_many, negated(closes));
+        fault = first(fault, u);
+        at = next;
+        left -= 1;
     }
-    let closes = key(marks, n, p) == CLOSE_LIST;
-    if key(marks, n, i) == CLOSE_LIST {
-        return Args {
-            past: i,
-            fits: both(fits, closes),
-            uses: uses,
-        };
+    Args {
+        past: at,
+        fits: false,
+        uses: fault,
     }
-    let c = arg(marks, nums, ats, n, room, cells, used, p, i);
-    let next = c.past;
-    let u = c.uses;
-    let as_many = both(fits, negated(closes));
-    args(
-        marks,
-        nums,
-        ats,
-        n,
-        fuel - 1,
-        room,
-        cells,
-        used,
-        ahead(n, 1, p),
-        as_many,
-        first(uses, u),
-        next,
-    )
 }

@@ -19,70 +19,73 @@ use crate::places::offset;
 use lexer::keys::CLOSE_LIST;
 use lexer::keys::END;
 ghost use mathlib.Core.Path.{_≡_};
-ghost use Prim.Native.Nat.{_-_};
-ghost use Rattle.checker.specs.CheckAt.{added, noDefs};
+ghost use Rattle.checker.specs.CheckAt.{added, noDefs, noNames};
 ghost use Rattle.checker.specs.CheckStored.{paramsAt, paramsEnd, paramsTwice, headTwice, walkedBody, defAt, defsAt, bodyAt, bodiesAt, programAt};
 
 // The names of the parameters from `i` on.
 fn params(marks: &[u16], n: usize, room: usize, i: usize) -> Names
-    ensures { λ r. ⌜ r ≡ paramsAt (now (marks .entry)) (now (marks .entry)) (now (marks .entry)) n room i ⌝ }
+    ensures { λ r. ⌜ r ≡ paramsAt (now (marks .entry)) (now (marks .entry)) (now (marks .entry)) n room noNames i ⌝ }
 {
-    if room == 0 {
-        return none();
+    let mut sc = none();
+    let mut left = room;
+    let mut at = i;
+    while 0 < left {
+        if key(marks, n, at) == CLOSE_LIST {
+            return sc;
+        }
+        sc = push(sc, at);
+        at = ahead(n, 1, at);
+        left -= 1;
     }
-    if key(marks, n, i) == CLOSE_LIST {
-        return none();
-    }
-    push(params(marks, n, room - 1, ahead(n, 1, i)), i)
+    sc
 }
 
 // The index of the bracket that closes them.
 fn params_end(marks: &[u16], n: usize, room: usize, i: usize) -> usize
     ensures { λ r. ⌜ r ≡ paramsEnd (now (marks .entry)) (now (marks .entry)) (now (marks .entry)) n room i ⌝ }
 {
-    if room == 0 {
-        return i;
+    let mut left = room;
+    let mut at = i;
+    while 0 < left {
+        if key(marks, n, at) == CLOSE_LIST {
+            return at;
+        }
+        at = ahead(n, 1, at);
+        left -= 1;
     }
-    if key(marks, n, i) == CLOSE_LIST {
-        return i;
-    }
-    params_end(marks, n, room - 1, ahead(n, 1, i))
+    at
 }
 
-// "6 ... a parameter defined twice": `before` are the earlier ones.
+// "6 ... a parameter defined twice".
 fn params_twice(
     marks: &[u16],
     nums: &[u16],
     ats: &[u16],
     n: usize,
     room: usize,
-    before: Names,
     i: usize,
 ) -> Verdict
-    ensures { λ r. ⌜ r ≡ paramsTwice (now (marks .entry)) (now (nums .entry)) (now (ats .entry)) n room before i ⌝ }
+    ensures { λ r. ⌜ r ≡ paramsTwice (now (marks .entry)) (now (nums .entry)) (now (ats .entry)) n room noNames i ⌝ }
 {
-    if room == 0 {
-        return Verdict::Fine;
+    let mut earlier = none();
+    let mut left = room;
+    let mut at = i;
+    while 0 < left {
+        if key(marks, n, at) == CLOSE_LIST {
+            return Verdict::Fine;
+        }
+        let used = earlier.used;
+        if is_named(marks, nums, n, &earlier.cells, used, at) {
+            return Verdict::Fault {
+                number: 6,
+                offset: offset(ats, n, at),
+            };
+        }
+        earlier = push(earlier, at);
+        at = ahead(n, 1, at);
+        left -= 1;
     }
-    if key(marks, n, i) == CLOSE_LIST {
-        return Verdict::Fine;
-    }
-    let used = before.used;
-    if is_named(marks, nums, n, &before.cells, used, i) {
-        return Verdict::Fault {
-            number: 6,
-            offset: offset(ats, n, i),
-        };
-    }
-    params_twice(
-        marks,
-        nums,
-        ats,
-        n,
-        room - 1,
-        push(before, i),
-        ahead(n, 1, i),
-    )
+    Verdict::Fine
 }
 
 // One definition more, whose name stands at `h` and which ends before `k`.
@@ -131,7 +134,8 @@ fn walked_body(
     ensures { λ r. ⌜ r ≡ walkedBody (now (marks .entry)) (now (nums .entry)) (now (ats .entry)) n (now (heads .entry)) i ⌝ }
 {
     let start = ahead(n, 1, params_end(marks, n, 16, ahead(n, 4, i)));
-    term(marks, nums, ats, n, heads, 0, 63, none(), start)
+    let mut cells = [0usize; 144];
+    term(marks, nums, ats, n, heads, 0, 63, &mut cells, 0, start)
 }
 
 // One definition more: "6 a function or a parameter defined twice; equal names in one `cons?`".
@@ -145,7 +149,7 @@ fn def(marks: &[u16], nums: &[u16], ats: &[u16], n: usize, ds: Defs) -> Defs
     let end = t.past;
     let within = t.names;
     let new = head_twice(nums, ats, n, &ds.heads, count, h);
-    let twice = params_twice(marks, nums, ats, n, 16, none(), ahead(n, 4, i));
+    let twice = params_twice(marks, nums, ats, n, 16, ahead(n, 4, i));
     add(ds, h, ahead(n, 1, end), first(new, first(twice, within)))
 }
 
@@ -153,14 +157,17 @@ fn def(marks: &[u16], nums: &[u16], ats: &[u16], n: usize, ds: Defs) -> Defs
 fn defs(marks: &[u16], nums: &[u16], ats: &[u16], n: usize, left: usize, ds: Defs) -> Defs
     ensures { λ r. ⌜ r ≡ defsAt (now (marks .entry)) (now (nums .entry)) (now (ats .entry)) n left ds ⌝ }
 {
-    if left == 0 {
-        return ds;
+    let mut all = ds;
+    let mut more = left;
+    while 0 < more {
+        let i = all.past;
+        if key(marks, n, i) == END {
+            return all;
+        }
+        all = def(marks, nums, ats, n, all);
+        more -= 1;
     }
-    let i = ds.past;
-    if key(marks, n, i) == END {
-        return ds;
-    }
-    defs(marks, nums, ats, n, left - 1, def(marks, nums, ats, n, ds))
+    all
 }
 
 fn no_defs() -> Defs
@@ -195,6 +202,9 @@ fn body(
 {
     let p = ahead(n, 2, h);
     let start = ahead(n, 1, params_end(marks, n, 16, p));
+    let sc = params(marks, n, 16, p);
+    let mut cells = sc.cells;
+    let used = sc.used;
     let t = term(
         marks,
         nums,
@@ -203,33 +213,15 @@ fn body(
         heads,
         count,
         63,
-        params(marks, n, 16, p),
+        &mut cells,
+        used,
         start,
     );
     t.uses
 }
 
-// And in those of the definitions from number `j` on.
+// And in those of all definitions: a body is looked at only where those before it are fine.
 fn bodies(
-    marks: &[u16],
-    nums: &[u16],
-    ats: &[u16],
-    n: usize,
-    heads: &[usize],
-    count: usize,
-    j: usize,
-) -> Verdict
-    ensures { λ r. ⌜ r ≡ bodiesAt (now (marks .entry)) (now (nums .entry)) (now (ats .entry)) n (now (heads .entry)) count (count - j) j ⌝ }
-{
-    if count <= j {
-        return Verdict::Fine;
-    }
-    let v = body(marks, nums, ats, n, heads, count, index(heads, j));
-    first(v, bodies(marks, nums, ats, n, heads, count, j + 1))
-}
-
-// And in those of all.
-fn all_bodies(
     marks: &[u16],
     nums: &[u16],
     ats: &[u16],
@@ -239,7 +231,20 @@ fn all_bodies(
 ) -> Verdict
     ensures { λ r. ⌜ r ≡ bodiesAt (now (marks .entry)) (now (nums .entry)) (now (ats .entry)) n (now (heads .entry)) count count 0 ⌝ }
 {
-    bodies(marks, nums, ats, n, heads, count, 0)
+    let mut j: usize = 0;
+    while j < count {
+        let v = body(marks, nums, ats, n, heads, count, index(heads, j));
+        match v {
+            Verdict::Fine => {
+                j += 1;
+                continue;
+            }
+            Verdict::Fault { number, offset } => {
+                return Verdict::Fault { number, offset };
+            }
+        }
+    }
+    Verdict::Fine
 }
 
 // The first fault of a program.
@@ -249,5 +254,5 @@ pub fn check_program(marks: &[u16], nums: &[u16], ats: &[u16], n: usize) -> Verd
     let ds = definitions(marks, nums, ats, n);
     let count = ds.count;
     let names = ds.names;
-    first(names, all_bodies(marks, nums, ats, n, &ds.heads, count))
+    first(names, bodies(marks, nums, ats, n, &ds.heads, count))
 }

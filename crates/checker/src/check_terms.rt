@@ -1,6 +1,5 @@
 // The check of terms by their tokens: 6 in `cons?`, 7, 8, 9 (01, "From the input"). `heads`, `count` of them, are the definitions, each by
-// the index of its name.
-use crate::check::Names;
+// the index of its name; `cells`, `used` of them, are the names in reach. A branch writes its own behind these, and keeps these.
 use crate::check::Verdict;
 use crate::check::Walked;
 use crate::check::both;
@@ -8,7 +7,7 @@ use crate::check::first;
 use crate::check::index;
 use crate::check::judge;
 use crate::check::negated;
-use crate::check::push;
+use crate::check::put;
 use crate::check_expressions::args;
 use crate::check_expressions::ea;
 use crate::check_expressions::exp;
@@ -24,20 +23,22 @@ use lexer::keys::IF;
 use lexer::keys::OPEN;
 ghost use mathlib.Core.Path.{_≡_};
 ghost use Prim.Native.Nat.{_-_};
+ghost use Rattle.checker.specs.CheckAt.{names, Kept};
 ghost use Rattle.checker.specs.CheckStored.{placeAt, callAt, termAt, eqaAt, conspAt};
 
 // The number of the function with the name `x`, from number `j` on: `count` where there is none.
 fn place(nums: &[u16], n: usize, heads: &[usize], count: usize, j: usize, x: u16) -> usize
     ensures { λ r. ⌜ r ≡ placeAt (now (nums .entry)) (now (nums .entry)) (now (nums .entry)) n (now (heads .entry)) (count - j) j x ⌝ }
 {
-    if count <= j {
-        return j;
+    let mut at = j;
+    while at < count {
+        let h = index(heads, at);
+        if num(nums, n, h) == x {
+            return at;
+        }
+        at += 1;
     }
-    let h = index(heads, j);
-    if num(nums, n, h) == x {
-        return j;
-    }
-    place(nums, n, heads, count, j + 1, x)
+    at
 }
 
 // The number of the function with the name `x`.
@@ -99,15 +100,15 @@ fn eqa(
     heads: &[usize],
     count: usize,
     room: usize,
-    sc: Names,
+    cells: &mut [usize; 144],
+    used: usize,
     i: usize,
 ) -> Walked
-    ensures { λ r. ⌜ r ≡ eqaAt (now (marks .entry)) (now (nums .entry)) (now (ats .entry)) n (now (heads .entry)) count room sc i ⌝ }
+    ensures { λ r. ⌜ (r ≡ eqaAt (now (marks .entry)) (now (nums .entry)) (now (ats .entry)) n (now (heads .entry)) count room (names (now (cells .entry)) used) i) × Kept used (now (cells .entry)) (now (cells .exit)) ⌝ }
 {
-    let used = sc.used;
-    let c = ea(marks, nums, ats, n, room, &sc.cells, used, ahead(n, 4, i));
+    let c = ea(marks, nums, ats, n, room, cells, used, ahead(n, 4, i));
     let c_past = c.past;
-    let d = ea(marks, nums, ats, n, room, &sc.cells, used, c_past);
+    let d = ea(marks, nums, ats, n, room, cells, used, c_past);
     let d_past = d.past;
     let s = term(
         marks,
@@ -117,11 +118,12 @@ fn eqa(
         heads,
         count,
         room,
-        sc,
+        cells,
+        used,
         ahead(n, 1, d_past),
     );
     let s_past = s.past;
-    let u = term(marks, nums, ats, n, heads, count, room, sc, s_past);
+    let u = term(marks, nums, ats, n, heads, count, room, cells, used, s_past);
     let u_past = u.past;
     let s_names = s.names;
     let u_names = u.names;
@@ -145,43 +147,37 @@ fn consp(
     heads: &[usize],
     count: usize,
     room: usize,
-    sc: Names,
+    cells: &mut [usize; 144],
+    used: usize,
     i: usize,
 ) -> Walked
-    ensures { λ r. ⌜ r ≡ conspAt (now (marks .entry)) (now (nums .entry)) (now (ats .entry)) n (now (heads .entry)) count room sc i ⌝ }
+    ensures { λ r. ⌜ (r ≡ conspAt (now (marks .entry)) (now (nums .entry)) (now (ats .entry)) n (now (heads .entry)) count room (names (now (cells .entry)) used) i) × Kept used (now (cells .entry)) (now (cells .exit)) ⌝ }
 {
-    let used = sc.used;
-    let c = exp(marks, nums, ats, n, room, &sc.cells, used, ahead(n, 4, i));
+    let c = exp(marks, nums, ats, n, room, cells, used, ahead(n, 4, i));
     let h = c.past;
     let t = ahead(n, 1, h);
     let x = ahead(n, 2, h);
-    let s = term(
-        marks,
-        nums,
-        ats,
-        n,
-        heads,
-        count,
-        room,
-        push(push(sc, h), t),
-        ahead(n, 4, h),
-    );
-    let s_past = s.past;
-    let u = term(marks, nums, ats, n, heads, count, room, push(sc, x), s_past);
+    let one = put(cells, used, h);
+    let two = put(cells, one, t);
+    let start = ahead(n, 4, h);
+    let s = term(marks, nums, ats, n, heads, count, room, cells, two, start);
+    let k = s.past;
+    let other = put(cells, used, x);
+    let u = term(marks, nums, ats, n, heads, count, room, cells, other, k);
     let u_past = u.past;
     let s_names = s.names;
     let u_names = u.names;
     let c_uses = c.uses;
     let s_uses = s.uses;
     let u_uses = u.uses;
-    let two = judge(
+    let twice = judge(
         negated(num(nums, n, h) == num(nums, n, t)),
         6,
         offset(ats, n, t),
     );
     Walked {
         past: ahead(n, 1, u_past),
-        names: first(two, first(s_names, u_names)),
+        names: first(twice, first(s_names, u_names)),
         uses: first(c_uses, first(s_uses, u_uses)),
     }
 }
@@ -195,38 +191,27 @@ pub(crate) fn term(
     heads: &[usize],
     count: usize,
     room: usize,
-    sc: Names,
+    cells: &mut [usize; 144],
+    used: usize,
     i: usize,
 ) -> Walked
-    ensures { λ r. ⌜ r ≡ termAt (now (marks .entry)) (now (nums .entry)) (now (ats .entry)) n (now (heads .entry)) count room sc i ⌝ }
+    ensures { λ r. ⌜ (r ≡ termAt (now (marks .entry)) (now (nums .entry)) (now (ats .entry)) n (now (heads .entry)) count room (names (now (cells .entry)) used) i) × Kept used (now (cells .entry)) (now (cells .exit)) ⌝ }
 {
-    let used = sc.used;
     if room == 0 {
-        return leaf(marks, nums, ats, n, &sc.cells, used, i);
+        return leaf(marks, nums, ats, n, cells, used, i);
     }
     if key(marks, n, i) == OPEN {
         let form = key(marks, n, ahead(n, 1, i));
         if form == CALL {
-            return call(
-                marks,
-                nums,
-                ats,
-                n,
-                heads,
-                count,
-                room - 1,
-                &sc.cells,
-                used,
-                i,
-            );
+            return call(marks, nums, ats, n, heads, count, room - 1, cells, used, i);
         }
         if form == IF {
             if key(marks, n, ahead(n, 3, i)) == EQA {
-                return eqa(marks, nums, ats, n, heads, count, room - 1, sc, i);
+                return eqa(marks, nums, ats, n, heads, count, room - 1, cells, used, i);
             }
-            return consp(marks, nums, ats, n, heads, count, room - 1, sc, i);
+            return consp(marks, nums, ats, n, heads, count, room - 1, cells, used, i);
         }
-        return pair(marks, nums, ats, n, room - 1, &sc.cells, used, i);
+        return pair(marks, nums, ats, n, room - 1, cells, used, i);
     }
-    leaf(marks, nums, ats, n, &sc.cells, used, i)
+    leaf(marks, nums, ats, n, cells, used, i)
 }

@@ -7,27 +7,13 @@
 // and prints the title and what 01 has printed. The lent storages are full of garbage before each.
 use libc::STDIN_FILENO;
 use libc::STDOUT_FILENO;
+use pages::part::part;
 use print::list::print_list;
 use print::ran::print_run;
 use resolve::list;
 use resolve::run;
 ghost use Prim.Native.Nat.{_≤_, min};
 ghost use lib.ListN.{length};
-
-fn least(a: usize, b: usize) -> usize
-    ensures { λ r. ⌜ (r ≤ a) × (r ≤ b) ⌝ }
-{
-    if a < b { a } else { b }
-}
-
-// The bytes from one place up to another; there are none past the text's end.
-fn part(text: &[u8], from: usize, to: usize) -> &[u8] {
-    let end = least(to, text.len());
-    if end < from {
-        return &text[..0];
-    }
-    &text[from..end]
-}
 
 // Where the line that `from` stands in ends.
 fn line_end(text: &[u8], from: usize) -> usize

@@ -1,5 +1,5 @@
 -- The grammar by positions: what a reader comes to that builds nothing and keeps an index into the tokens.
--- A function of the code that reads has one of these for its contract; proofs/GrammarTracks.antt: they do what the grammar does.
+-- A function of the code that reads has one of these for its contract; syntax/proofs/GrammarTracks.antt: they do what the grammar does.
 use Prim.Native.Nat.{ℕ, zero, suc, _+_, _-_}
 use Prim.Native.String.{String}
 use mathlib.Core.Bool.{Bool, true, false}

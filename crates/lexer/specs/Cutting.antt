@@ -1,4 +1,4 @@
--- A text cut into words by index: where a word begins and ends. proofs/Cutting.antt: these are the pieces of `cut`.
+-- A text cut into words by index: where a word begins and ends. proofs/CutByIndex.antt: these are the pieces of `cut`.
 use Prim.Native.Nat.{ℕ, zero, suc, _+_, _-_}
 use mathlib.Core.Bool.{Bool, true, false, cond, not}
 use mathlib.Core.List.{List, [], _∷_}

@@ -1,4 +1,4 @@
--- A text cut into tokens in storage, token by token. proofs/: these are the tokens of specs/Tokens.antt up to the first that no reader passes.
+-- A text cut into tokens in storage, token by token. proofs/: these are the tokens of language/specs/Tokens.antt up to the first that no reader passes.
 use Prim.Native.Nat.{ℕ, zero, suc, _+_, _*_, _%_}
 use mathlib.Core.Bool.{Bool, true, false, cond, _&&_, not}
 use mathlib.Core.Path.{_≡_}

@@ -1,4 +1,4 @@
-// Bytes by kind (specs/Bytes.antt), and refusals 1 and 2.
+// Bytes by kind (language/specs/Bytes.antt), and refusals 1 and 2.
 use crate::got::Got;
 ghost use mathlib.Core.Path.{_≡_};
 ghost use mathlib.Core.Bool.{not};

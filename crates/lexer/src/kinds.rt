@@ -1,4 +1,4 @@
-// What a word is: its key among the fixed words, its kind, how it fits, its hash (specs/Tokens.antt). A kind is its tag.
+// What a word is: its key among the fixed words, its kind, how it fits, its hash (language/specs/Tokens.antt). A kind is its tag.
 use crate::keys::ANAME;
 use crate::keys::AVARIABLE;
 use crate::keys::ENAME;

@@ -1,4 +1,4 @@
-// A word judged: how it fits as a name or a numeral, and its value (specs/Words.antt). A fit is its number (specs/Stored.antt).
+// A word judged: how it fits as a name or a numeral, and its value (language/specs/Words.antt). A fit is its number (specs/Marks.antt).
 use crate::cutting::digits_end;
 use crate::cutting::name_end;
 ghost use mathlib.Core.Path.{_≡_};

@@ -11,6 +11,11 @@ abbrev times : ℕ → String → List ℕ
 times zero s = []
 times (suc k) s = txt s ++ times k s
 
+-- a tree of 2 ^ k leaves
+abbrev tree : ℕ → List ℕ
+tree zero = txt "'K"
+tree (suc k) = txt "(cons " ++ tree k ++ txt " " ++ tree k ++ txt ")"
+
 abbrev anyProgram : List ℕ
 anyProgram = txt "(define f [e.x] e.x)"
 
@@ -75,6 +80,12 @@ listings =
     (txt "(job (in) (out 'A) (neq) (steps 99) (walk 99) (table 9))") "stop21 0 13\n" ∷
     reading 75 (txt "(define f [e.x e.n] (if (cons? e.n e.h e.n a.p) (call f [(cons e.x e.x) e.n]) e.x))")
     (txt "(job (in 'A " ++ times 10 "(cons 'I " ++ txt "'O" ++ times 10 ")" ++ txt ") (out ?e1) (neq) (steps 99) (walk 99) (table 9))") "stop21 0 22\n" ∷
+    reading 76 (txt "(define f [e.x e.n] (if (cons? e.n e.h e.m a.p) (call f [(cons e.x e.x) e.m]) (cons e.x 'B)))")
+    (txt "(job (in 'A " ++ times 10 "(cons 'I " ++ txt "'O" ++ times 10 ")" ++ txt ") (out (cons ?e1 'A)) (neq) (steps 99) (walk 99) (table 9))") "stop21 0 22\n" ∷
+    reading 78 (txt "(define f [a.z e.x e.n] (if (cons? e.n e.h e.m a.p) (call f [a.z (cons e.x e.x) e.m]) (call g [a.z e.x])))" ++
+    txt "(define g [a.z e.x] (if (eqa? a.z 'Z1) e.x (if (eqa? a.z 'Z2) e.x (if (eqa? a.z 'Z3) e.x (if (eqa? a.z 'Z4) e.x (if (eqa? a.z 'Z5) e.x (if (eqa? a.z 'Z6) e.x (if (eqa? a.z 'Z7) e.x (if (eqa? a.z 'Z8) e.x (if (eqa? a.z 'Z9) e.x e.x" ++ times 9 ")" ++ txt ")")
+    (txt "(job (in ?a1 'K " ++ times 9 "(cons 'N " ++ txt "'N" ++ times 9 ")" ++ txt ") (out " ++ tree 9 ++ txt ") (neq) (steps 99) (walk 99) (table 99))")
+    "whole 10 39\n1 22 ?a1='Z1\n2 23 ?a1='Z2\n3 24 ?a1='Z3\n4 25 ?a1='Z4\n5 26 ?a1='Z5\n6 27 ?a1='Z6\n7 28 ?a1='Z7\n8 29 ?a1='Z8\n9 30 ?a1='Z9\n10 30 # ?a1 'Z1 # ?a1 'Z2 # ?a1 'Z3 # ?a1 'Z4 # ?a1 'Z5 # ?a1 'Z6 # ?a1 'Z7 # ?a1 'Z8 # ?a1 'Z9\n" ∷
     reading 79 (txt "(define f [e.x e.y] (cons e.y e.x))")
     (txt "(job (in ?e1 ?e2) (out (cons 'B 'A)) (neq) (steps 9) (walk 9) (table 9))") "whole 1 1\n1 1 ?e1='A ?e2='B\n" ∷
     reading 80 (txt "(define f [e.x] (cons e.x 'K))")

@@ -33,10 +33,10 @@ use Rattle.starts.proofs.StartTexts.{accepted-sides, job-here, job-short}
 use Rattle.lines.specs.LineCells.{linesCells}
 use Rattle.resolve.specs.RunAnswer as runs
 use Rattle.resolve.specs.ListAnswer.{worded, answerOf, cellsAfter, tooShort, listLeft}
-use Rattle.resolve.specs.declared.list.Answer.{Answer}
-use Rattle.resolve.specs.declared.list.Answer.the-variants.{Whole, Cut, Stop21, Stop22, Stop23, Program, Job, Short}
-use Rattle.resolve.specs.declared.run.Answer.{Answer as RunAnswer}
-use Rattle.resolve.specs.declared.run.Answer.the-variants.{Value as ValueOf, Over as OverOf, NotWithin as NotWithinOf, Program as RunProgram, Job as RunJob, Short as RunShort}
+use Rattle.answers.specs.declared.list.Answer.{Answer}
+use Rattle.answers.specs.declared.list.Answer.the-variants.{Whole, Cut, Stop21, Stop22, Stop23, Program, Job, Short}
+use Rattle.answers.specs.declared.run.Answer.{Answer as RunAnswer}
+use Rattle.answers.specs.declared.run.Answer.the-variants.{Value as ValueOf, Over as OverOf, NotWithin as NotWithinOf, Program as RunProgram, Job as RunJob, Short as RunShort}
 use Rattle.print.specs.declared.list.Ending.{Ending}
 use Rattle.print.specs.declared.list.Ending.the-variants.{Whole as WholeWord, Cut as CutWord, Stop21 as Word21, Stop22 as Word22, Stop23 as Word23}
 use Rattle.writer.specs.declared.outcome.Outcome.{Outcome}

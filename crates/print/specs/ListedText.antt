@@ -10,8 +10,8 @@ use Rattle.texts.specs.declared.both.Both.the-variants.{Accepted, Program as Of
 use Rattle.starts.specs.StartCells.{laidJob}
 use Rattle.starts.specs.declared.start.Laid.{Laid}
 use Rattle.starts.specs.declared.start.Laid.the-variants.{Done, Over}
-use Rattle.resolve.specs.declared.list.Answer.{Answer}
-use Rattle.resolve.specs.declared.list.Answer.the-variants.{Whole, Cut, Stop21, Stop22, Stop23, Program, Job, Short}
+use Rattle.answers.specs.declared.list.Answer.{Answer}
+use Rattle.answers.specs.declared.list.Answer.the-variants.{Whole, Cut, Stop21, Stop22, Stop23, Program, Job, Short}
 use Rattle.print.specs.declared.list.Ending.{Ending}
 use Rattle.print.specs.declared.list.Ending.the-variants.{Whole as WholeOf, Cut as CutOf, Stop21 as Stop21Of, Stop22 as Stop22Of, Stop23 as Stop23Of}
 use Rattle.print.specs.declared.list.Terms.{Terms}

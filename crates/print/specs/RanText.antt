@@ -4,8 +4,8 @@ use mathlib.Core.Bool.{true}
 use mathlib.Core.List.{List}
 use lib.ListN.{take, replicate}
 use Rattle.listing.specs.Text.{printRefusal, printRefusalOfNeither}
-use Rattle.resolve.specs.declared.run.Answer.{Answer}
-use Rattle.resolve.specs.declared.run.Answer.the-variants.{Value, Over, NotWithin, Program, Job, Short}
+use Rattle.answers.specs.declared.run.Answer.{Answer}
+use Rattle.answers.specs.declared.run.Answer.the-variants.{Value, Over, NotWithin, Program, Job, Short}
 use Rattle.writer.specs.declared.outcome.Outcome.{Outcome}
 use Rattle.writer.specs.declared.outcome.Outcome.the-variants.{Value as ValueOf, Over as OverOf, NotWithin as NotWithinOf}
 use Rattle.print.specs.Names.{textNames}

@@ -1,5 +1,5 @@
 // The text of a listing, from the two texts and from what `resolve::list` answered and left.
-use resolve::list::Answer;
+use answers::list::Answer;
 use starts::start::Laid;
 use starts::start::lay_job;
 use texts::both::Both;

@@ -20,8 +20,8 @@ use Rattle.lines.proofs.ReadingLaws.{lines-read}
 use Rattle.resolve.specs.ListAnswer.{ListLeft, worded, answerOf, linesThen, cellsAfter, tooShort, unlessShort, listLeft, linesIn}
 use Rattle.resolve.specs.ListCells.{ListOut, listTexts}
 use Rattle.resolve.specs.ListDemand.{Ended, StoredListing}
-use Rattle.resolve.specs.declared.list.Answer.{Answer}
-use Rattle.resolve.specs.declared.list.Answer.the-variants.{Short}
+use Rattle.answers.specs.declared.list.Answer.{Answer}
+use Rattle.answers.specs.declared.list.Answer.the-variants.{Short}
 use Rattle.resolve.proofs.ListMeaning.{texts-left}
 
 lines-worded : (w : Word) (l c : ℕ) → linesIn (worded w l c) ≡ l

@@ -59,8 +59,8 @@ use Rattle.resolve.specs.ListAnswer.{ListLeft, worded, answerOf, linesTh
 use Rattle.resolve.specs.ListCells.{cameTo, ListOut, walkLeft, listBehind, listTexts}
 use Rattle.texts.specs.declared.both.Both.{Both}
 use Rattle.texts.specs.declared.both.Both.the-variants.{Accepted as Taken}
-use Rattle.resolve.specs.declared.list.Answer.{Answer as Outcome}
-use Rattle.resolve.specs.declared.list.Answer.the-variants.{Whole, Cut}
+use Rattle.answers.specs.declared.list.Answer.{Answer as Outcome}
+use Rattle.answers.specs.declared.list.Answer.the-variants.{Whole, Cut}
 use Rattle.texts.proofs.BothTurns.{LeftBy}
 use Rattle.texts.proofs.BothRead.{zeros-length, endsOf, tableOf, headsOf, leaving, refusedTexts, taken, both-are, texts-by-reading}
 use Rattle.resolve.proofs.ProgramHeld.{tokenOf, program-defines, program-stands, few-params, main-opens}

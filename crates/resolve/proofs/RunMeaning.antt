@@ -39,8 +39,8 @@ use Rattle.starts.proofs.StartLengths.{run-kept}
 use Rattle.resolve.specs.RunAnswer.{RunLeft, answerOf, cellsAfter}
 use Rattle.runner.specs.ForwardCells.{RanAnswer, RanOut, ranOn}
 use Rattle.runner.specs.declared.forward.Ran.{Ran as RanCells}
-use Rattle.resolve.specs.declared.run.Answer.{Answer as Outcome}
-use Rattle.resolve.specs.declared.run.Answer.the-variants.{Value as ValueOf, Over, NotWithin}
+use Rattle.answers.specs.declared.run.Answer.{Answer as Outcome}
+use Rattle.answers.specs.declared.run.Answer.the-variants.{Value as ValueOf, Over, NotWithin}
 use Rattle.runner.specs.InputsCells.{settledRan, onSized, runLoop, runBegun, runInputs}
 use Rattle.texts.specs.BothCells.{BothAnswer, bothOver}
 use Rattle.resolve.specs.RunCells.{answerRan, RunOut, ranLeft, runBehind, runTexts}

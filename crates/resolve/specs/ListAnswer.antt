@@ -11,8 +11,8 @@ use Rattle.semantics.specs.Answer as meaning
 use Rattle.texts.specs.ReadCells.{zeros}
 use Rattle.lines.specs.LineCells.{linesCells, answerRoom}
 use Rattle.resolve.specs.RunAnswer.{workCells}
-use Rattle.resolve.specs.declared.list.Answer.{Answer}
-use Rattle.resolve.specs.declared.list.Answer.the-variants.{Whole, Cut, Stop21, Stop22, Stop23, Program, Job, Short}
+use Rattle.answers.specs.declared.list.Answer.{Answer}
+use Rattle.answers.specs.declared.list.Answer.the-variants.{Whole, Cut, Stop21, Stop22, Stop23, Program, Job, Short}
 
 -- an answer, the working storage and the answer storage
 pub record ListLeft : Type 0 where

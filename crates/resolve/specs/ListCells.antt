@@ -1,7 +1,7 @@
 -- Listing two texts in cells: what each function of list.rt answers and leaves.
 use Prim.Native.Nat.{ℕ}
 use mathlib.Core.Path.{_≡_}
-use mathlib.Core.Bool.{false, cond}
+use mathlib.Core.Bool.{false}
 use mathlib.Core.List.{List}
 use Rattle.texts.specs.ReadCells.{zeros}
 use Rattle.syntax.specs.declared.job_ends.JobEnds.{JobEnds}
@@ -16,11 +16,12 @@ use Rattle.resolve.specs.ListAnswer.{ListLeft}
 use Rattle.texts.specs.BothCells.{BothAnswer, bothOver}
 use Rattle.texts.specs.declared.both.Both.{Both}
 use Rattle.texts.specs.declared.both.Both.the-variants.{Accepted, Program as OfProgram, Job as OfJob, Short as TooShort}
-use Rattle.resolve.specs.declared.list.Answer.{Answer}
-use Rattle.resolve.specs.declared.list.Answer.the-variants.{Whole, Cut, Stop21, Stop22, Stop23, Program, Job, Short}
+use Rattle.answers.specs.ListEnding.{unstoppedAs}
+use Rattle.answers.specs.declared.list.Answer.{Answer}
+use Rattle.answers.specs.declared.list.Answer.the-variants.{Stop21, Stop22, Stop23, Program, Job, Short}
 
 abbrev pub endedAs : Ending → Found → Answer
-endedAs Done f = cond (f .cut) (Cut (f .lines .count) (f .count)) (Whole (f .lines .count) (f .count))
+endedAs Done f = unstoppedAs (f .cut) (f .lines .count) (f .count)
 endedAs Over f = Stop21 (f .lines .count) (f .count)
 endedAs Full f = Stop22 (f .lines .count) (f .count)
 endedAs Spent f = Stop23 (f .lines .count) (f .count)

@@ -9,8 +9,8 @@ use Rattle.semantics.specs.Walk.{Walked, wordOf, linesOf, countOf}
 use Rattle.semantics.specs.Demand3.{ListingCorrect}
 use Rattle.lines.specs.LineReading.{readLines}
 use Rattle.resolve.specs.ListAnswer.{worded, linesIn}
-use Rattle.resolve.specs.declared.list.Answer.{Answer}
-use Rattle.resolve.specs.declared.list.Answer.the-variants.{Whole, Cut, Stop21, Stop22, Stop23, Program, Job, Short}
+use Rattle.answers.specs.declared.list.Answer.{Answer}
+use Rattle.answers.specs.declared.list.Answer.the-variants.{Whole, Cut, Stop21, Stop22, Stop23, Program, Job, Short}
 
 -- "01's walk ends as whole or cut"
 abbrev pub Ended : Answer → Type 0

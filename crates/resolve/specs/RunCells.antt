@@ -14,8 +14,8 @@ use Rattle.resolve.specs.RunAnswer.{RunLeft}
 use Rattle.texts.specs.BothCells.{BothAnswer, bothOver}
 use Rattle.texts.specs.declared.both.Both.{Both}
 use Rattle.texts.specs.declared.both.Both.the-variants.{Accepted, Program as OfProgram, Job as OfJob, Short as TooShort}
-use Rattle.resolve.specs.declared.run.Answer.{Answer}
-use Rattle.resolve.specs.declared.run.Answer.the-variants.{Value, Over, NotWithin, Program, Job, Short}
+use Rattle.answers.specs.declared.run.Answer.{Answer}
+use Rattle.answers.specs.declared.run.Answer.the-variants.{Value, Over, NotWithin, Program, Job, Short}
 
 abbrev pub answerRan : Ran → Answer
 answerRan (RanValue s n) = Value s n

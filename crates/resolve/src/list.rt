@@ -1,5 +1,7 @@
 // The resolver over two texts (01, "The walk and what stops it"): the lines that the job's inputs and wanted output come to. What it
 // answers and leaves is defined in specs/ListAnswer.antt.
+use answers::list::Answer;
+use answers::list::unstopped;
 use expansion::found::Ending;
 use expansion::found::Walked;
 use texts::both::Both;
@@ -19,20 +21,7 @@ pub const WORK: usize = 8194;
 
 pub const ANSWER: usize = 17408;
 
-// How many lines stand in the answer storage and how many transitions were made, by the listing's first word; the refusal of a text (1 to
-// 12) with its offset; 20.
-pub enum Answer {
-    Whole { lines: usize, count: usize },
-    Cut { lines: usize, count: usize },
-    Stop21 { lines: usize, count: usize },
-    Stop22 { lines: usize, count: usize },
-    Stop23 { lines: usize, count: usize },
-    Program { number: usize, offset: usize },
-    Job { number: usize, offset: usize },
-    Short,
-}
-
-// "A walk that isn't stopped ends as cut if a configuration N deep is no end, else as whole."
+// Where nothing is untaken the walk isn't stopped; else by what stopped it: 21, 22 or 23.
 fn came_to(w: Walked) -> Answer
     ensures { λ r. ⌜ r ≡ cameTo w ⌝ }
 {
@@ -42,12 +31,7 @@ fn came_to(w: Walked) -> Answer
     let lines = all.count;
     let count = found.count;
     match ending {
-        Ending::Done => {
-            if found.cut {
-                return Answer::Cut { lines, count };
-            }
-            Answer::Whole { lines, count }
-        }
+        Ending::Done => unstopped(found.cut, lines, count),
         Ending::Over => Answer::Stop21 { lines, count },
         Ending::Full => Answer::Stop22 { lines, count },
         Ending::Spent => Answer::Stop23 { lines, count },

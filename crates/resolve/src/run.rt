@@ -1,5 +1,6 @@
 // The forward runner over two texts (01, "Running forwards"): "The runner reads a whole job text, checks it, and uses only the inputs and
 // N." What it answers and leaves is defined in specs/RunAnswer.antt.
+use answers::run::Answer;
 use runner::forward::Ran;
 use runner::inputs::run_inputs;
 use texts::both::Both;
@@ -13,16 +14,6 @@ ghost use Rattle.resolve.specs.RunCells.{answerRan, RunOut, runTexts};
 pub const WORK: usize = 8194;
 
 pub const ANSWER: usize = 4096;
-
-// The run's steps and how many cells its value has; 21; "not within N"; the refusal of a text (1 to 12) with its offset; 20.
-pub enum Answer {
-    Value { steps: usize, length: usize },
-    Over,
-    NotWithin,
-    Program { number: usize, offset: usize },
-    Job { number: usize, offset: usize },
-    Short,
-}
 
 fn answer_of(ran: Ran) -> Answer
     ensures { λ r. ⌜ r ≡ answerRan ran ⌝ }

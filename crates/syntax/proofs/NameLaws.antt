@@ -42,6 +42,16 @@ push-wide sc x m w =
     let s = w .spare in let l : sc .used < 144 = omega arith in let z = w .size in let q = length-set (sc .cells) (sc .used) x in
     subst (λ (n : Names). Wide n m) (inv (pushed sc x l)) (record { size = q ∙ z; spare = omega arith })
 
+or-moves : (a b r : Bool) → (a || (b || r)) ≡ ((b || a) || r)
+or-moves true true r = refl
+or-moves true false r = refl
+or-moves false true r = refl
+or-moves false false r = refl
+
+or-none : (a : Bool) → (a || false) ≡ a
+or-none true = refl
+or-none false = refl
+
 module _ (tok : ℕ → Token) (n : ℕ) where
   abbrev named : List ℕ → ℕ → ℕ → Bool
   named cells u i = isNamed (kinds tok n) (nums tok n) cells u i
@@ -88,8 +98,8 @@ module _ (tok : ℕ → Token) (n : ℕ) where
   abbrev endOf : ℕ → ℕ → ℕ
   endOf room i = paramsEnd (keys tok n) n room i
 
-  abbrev namesOf : ℕ → ℕ → Names
-  namesOf room i = paramsAt (keys tok n) n room i
+  abbrev namesOf : ℕ → Names → ℕ → Names
+  namesOf room sc i = paramsAt (keys tok n) n room sc i
 
   pub params-end : {i : ℕ} {xs : List SParam} {k : ℕ} (room : ℕ) → ParamsAt tok n i xs k → length xs ≤ room → endOf room i ≡ k
   unfolding paramsEnd
@@ -100,33 +110,57 @@ module _ (tok : ℕ → Token) (n : ℕ) where
   params-end zero (at.ParamsAt.aAt b x xs) l = let z : ⊥ = omega arith in absurd z
   params-end {i} (suc room) (at.ParamsAt.aAt b x xs) l = let y = x .below in rw (b, ahead-in n 1 i (omega arith)) (params-end room xs (omega arith))
 
-  either-wide : (sc : Names) (i m : ℕ) (b : Bool) → m ≤ 143 → Wide sc (suc m) → Wide (cond b noNames (push sc i)) m
-  either-wide sc i m true l w = wide-less noNames 144 m (omega arith) no-names-wide
-  either-wide sc i m false l w = push-wide sc i m w
+  either-wide : (sc td : Names) (m : ℕ) (b : Bool) → Wide sc m → Wide td m → Wide (cond b sc td) m
+  either-wide sc td m true v w = v
+  either-wide sc td m false v w = w
 
-  pub params-wide : (room i : ℕ) → room ≤ 16 → Wide (namesOf room i) (144 - room)
+  pub params-wide : (room : ℕ) (sc : Names) (i m : ℕ) → Wide sc (room + m) → Wide (namesOf room sc i) m
   unfolding paramsAt
-  params-wide zero i l = no-names-wide
-  params-wide (suc room) i l =
-      let k : room ≤ 16 = omega arith in
-      either-wide (namesOf room (ahead n 1 i)) i (144 - suc room) (is "]" (tok i)) (omega arith)
-      (wide-less _ (144 - room) (suc (144 - suc room)) (omega arith) (params-wide room (ahead n 1 i) k))
+  params-wide zero sc i m w = wide-less sc (zero + m) m (omega arith) w
+  params-wide (suc room) sc i m w =
+      let v = wide-less sc (suc room + m) (suc (room + m)) (omega arith) w in
+      either-wide sc (namesOf room (push sc i) (ahead n 1 i)) m (is "]" (tok i)) (wide-less sc (suc room + m) m (omega arith) w)
+      (params-wide room (push sc i) (ahead n 1 i) m (push-wide sc i (room + m) v))
 
-  wide-more : (room i : ℕ) → suc room ≤ 16 → Wide (namesOf room i) (suc 0)
-  wide-more room i l = let k : room ≤ 16 = omega arith in wide-less (namesOf room i) (144 - room) 1 (omega arith) (params-wide room i k)
+  -- td has in reach what is in s, and what sc has
+  record Also (sc td : Names) (s : Scope) : Type 0 where
+    evars : (j : ℕ) → isA ename (tok j) ≡ true → reached td j ≡ (isIn (tok j .num) (s .evars) || reached sc j)
+    avars : (j : ℕ) → isA aname (tok j) ≡ true → reached td j ≡ (isIn (tok j .num) (s .avars) || reached sc j)
 
-  pub params-reach : {i : ℕ} {xs : List SParam} {k : ℕ} (room : ℕ) → ParamsAt tok n i xs k → length xs ≤ room → room ≤ 16 → Reach tok n (namesOf room i) (scopeOf (params xs))
+  also-e : (sc td : Names) (s : Scope) (x m : ℕ) → Wide sc (suc m) → isA ename (tok x) ≡ true → Also (push sc x) td s → Also sc td (withE (tok x .num) s)
+  also-e sc td s x m w e r = record {
+    evars = λ j f. r .evars j f ∙ ap (λ (b : Bool). isIn (tok j .num) (s .evars) || b) (push-reached sc x m j w ∙ ap (λ (b : Bool). b || reached sc j) (same-kind ename ename x j e f))
+        ∙ or-moves (isIn (tok j .num) (s .evars)) (eqb (tok x .num) (tok j .num)) (reached sc j);
+    avars = λ j f. r .avars j f ∙ ap (λ (b : Bool). isIn (tok j .num) (s .avars) || b) (push-reached sc x m j w ∙ ap (λ (b : Bool). b || reached sc j) (same-kind ename aname x j e f));
+  }
+
+  also-a : (sc td : Names) (s : Scope) (x m : ℕ) → Wide sc (suc m) → isA aname (tok x) ≡ true → Also (push sc x) td s → Also sc td (withA (tok x .num) s)
+  also-a sc td s x m w e r = record {
+    evars = λ j f. r .evars j f ∙ ap (λ (b : Bool). isIn (tok j .num) (s .evars) || b) (push-reached sc x m j w ∙ ap (λ (b : Bool). b || reached sc j) (same-kind aname ename x j e f));
+    avars = λ j f. r .avars j f ∙ ap (λ (b : Bool). isIn (tok j .num) (s .avars) || b) (push-reached sc x m j w ∙ ap (λ (b : Bool). b || reached sc j) (same-kind aname aname x j e f))
+        ∙ or-moves (isIn (tok j .num) (s .avars)) (eqb (tok x .num) (tok j .num)) (reached sc j);
+  }
+
+  params-also : {i : ℕ} {xs : List SParam} {k : ℕ} (room : ℕ) (sc : Names) → ParamsAt tok n i xs k → length xs ≤ room → Wide sc room → Also sc (namesOf room sc i) (scopeOf (params xs))
   unfolding paramsAt
-  params-reach zero (at.ParamsAt.noneAt x) l m = no-names-reach
-  params-reach (suc room) (at.ParamsAt.noneAt x) l m = rw (x .key) no-names-reach
-  params-reach zero (at.ParamsAt.eAt b x xs) l m = let z : ⊥ = omega arith in absurd z
-  params-reach {i} (suc room) (at.ParamsAt.eAt {xs = ys} b x xs) l m =
+  params-also zero sc (at.ParamsAt.noneAt x) l w = record { evars = λ j e. refl; avars = λ j e. refl }
+  params-also (suc room) sc (at.ParamsAt.noneAt x) l w = rw (x .key) (record { evars = λ j e. refl; avars = λ j e. refl })
+  params-also zero sc (at.ParamsAt.eAt b x xs) l w = let z : ⊥ = omega arith in absurd z
+  params-also {i} (suc room) sc (at.ParamsAt.eAt {xs = ys} b x xs) l w =
       let y = x .below in
-      rw (b, ahead-in n 1 i (omega arith)) (push-e (namesOf room (i + 1)) (scopeOf (params ys)) i 0 (wide-more room (i + 1) m) (x .kind) (params-reach room xs (omega arith) (omega arith)))
-  params-reach zero (at.ParamsAt.aAt b x xs) l m = let z : ⊥ = omega arith in absurd z
-  params-reach {i} (suc room) (at.ParamsAt.aAt {xs = ys} b x xs) l m =
+      rw (b, ahead-in n 1 i (omega arith)) (also-e sc (namesOf room (push sc i) (i + 1)) (scopeOf (params ys)) i room w (x .kind) (params-also room (push sc i) xs (omega arith) (push-wide sc i room w)))
+  params-also zero sc (at.ParamsAt.aAt b x xs) l w = let z : ⊥ = omega arith in absurd z
+  params-also {i} (suc room) sc (at.ParamsAt.aAt {xs = ys} b x xs) l w =
       let y = x .below in
-      rw (b, ahead-in n 1 i (omega arith)) (push-a (namesOf room (i + 1)) (scopeOf (params ys)) i 0 (wide-more room (i + 1) m) (x .kind) (params-reach room xs (omega arith) (omega arith)))
+      rw (b, ahead-in n 1 i (omega arith)) (also-a sc (namesOf room (push sc i) (i + 1)) (scopeOf (params ys)) i room w (x .kind) (params-also room (push sc i) xs (omega arith) (push-wide sc i room w)))
+
+  pub params-reach : {i : ℕ} {xs : List SParam} {k : ℕ} (room : ℕ) → ParamsAt tok n i xs k → length xs ≤ room → room ≤ 144 → Reach tok n (namesOf room noNames i) (scopeOf (params xs))
+  unfolding isNamed
+  params-reach {xs = xs} room p l m =
+      let r = params-also room noNames p l (wide-less noNames 144 room m no-names-wide) in record {
+        evars = λ j e. r .evars j e ∙ or-none (isIn (tok j .num) (scopeOf (params xs) .evars));
+        avars = λ j e. r .avars j e ∙ or-none (isIn (tok j .num) (scopeOf (params xs) .avars));
+      }
 
   -- as many arguments as parameters, and what the parameters ask of them
   pub fit-at : {p : ℕ} {xs : List SParam} {k : ℕ} (cs : List SExp) → ParamsAt tok n p xs k → argsFit tok n p cs ≡ eqb (length xs) (length cs)

@@ -215,7 +215,7 @@ module _ (tok : ℕ → Token) (n : ℕ) where
     usesOf sc i = check.termAt (keys tok n) (kinds tok n) (nums tok n) (ats tok n) n heads (length ds) 63 sc i .uses
 
     abbrev paramsOf : ℕ → Names
-    paramsOf p = check.paramsAt (keys tok n) n 16 p
+    paramsOf p = check.paramsAt (keys tok n) n 16 noNames p
 
     abbrev endOf : ℕ → ℕ
     endOf p = check.paramsEnd (keys tok n) n 16 p
@@ -231,7 +231,7 @@ module _ (tok : ℕ → Token) (n : ℕ) where
         ap (λ p. usesOf (paramsOf p) (ahead n 1 (endOf p))) a ∙
         ap (λ e. usesOf (paramsOf (i + 4)) (ahead n 1 e)) (params-end tok n 16 p m) ∙
         ap (λ b. usesOf (paramsOf (i + 4)) b) (ahead-in n 1 j (omega arith)) ∙
-        ap (λ w. w .uses) (term-at tok n hs (paramsOf (i + 4)) (scopeOf (params xs)) (wide-less _ 128 126 (omega arith) (params-wide tok n 16 (i + 4) (omega arith)))
+        ap (λ w. w .uses) (term-at tok n hs (paramsOf (i + 4)) (scopeOf (params xs)) (params-wide tok n 16 noNames (i + 4) 126 (wide-less noNames 144 (16 + 126) (omega arith) no-names-wide))
         (params-reach tok n 16 p m (omega arith)) s)
 
     bodies-at : {j : ℕ} {es : List SDef} → HeadsAt tok n heads j es →

@@ -1,5 +1,5 @@
 -- The check of a job by position: 10, 11, 12, over the tokens of a job that was read without refusal and of the program before it.
--- proofs/JobLaws.antt: it finds what specs/JobCheck.antt finds.
+-- proofs/JobLaws.antt: it finds what language/specs/JobCheck.antt finds.
 use Prim.Native.Nat.{ℕ, zero, suc, _+_, _-_}
 use mathlib.Core.Bool.{Bool, true, false, cond, _&&_, _||_, not}
 use lib.Dec.{eqb, leb}

@@ -114,51 +114,48 @@ fn inputs(
 ) -> Args
     ensures { λ r. ⌜ r ≡ inputsAt (now (marks .entry)) (now (ats .entry)) (now (ats .entry)) n runs (now (main .entry)) m fuel p fits uses i ⌝ }
 {
-    if fuel == 0 {
-        return Args {
-            past: i,
-            fits: false,
-            uses: uses,
-        };
+    let mut left = fuel;
+    let mut param = p;
+    let mut as_many = fits;
+    let mut fault = uses;
+    let mut at = i;
+    while 0 < left {
+        let closes = key(main, m, param) == CLOSE_LIST;
+        if key(marks, n, at) == CLOSE {
+            return Args {
+                past: at,
+                fits: both(as_many, closes),
+                uses: fault,
+            };
+        }
+        let c = input(marks, ats, n, runs, main, m, param, at);
+        let next = c.past;
+        let u = c.uses;
+        param = ahead(m, 1, param);
+        as_many = both(as_many, negated(closes));
+        fault = first(fault, u);
+        at = next;
+        left -= 1;
     }
-    let closes = key(main, m, p) == CLOSE_LIST;
-    if key(marks, n, i) == CLOSE {
-        return Args {
-            past: i,
-            fits: both(fits, closes),
-            uses: uses,
-        };
+    Args {
+        past: at,
+        fits: false,
+        uses: fault,
     }
-    let c = input(marks, ats, n, runs, main, m, p, i);
-    let next = c.past;
-    let u = c.uses;
-    let as_many = both(fits, negated(closes));
-    inputs(
-        marks,
-        ats,
-        n,
-        runs,
-        main,
-        m,
-        fuel - 1,
-        ahead(m, 1, p),
-        as_many,
-        first(uses, u),
-        next,
-    )
 }
 
 // Whether `?aK` with the number `x` stands from `j` to before `end`.
 fn stands(marks: &[u16], nums: &[u16], n: usize, end: usize, j: usize, x: u16) -> bool
     ensures { λ r. ⌜ r ≡ standsFrom (now (marks .entry)) (now (nums .entry)) (now (nums .entry)) n false (end - j) j x ⌝ }
 {
-    if end <= j {
-        return false;
+    let mut at = j;
+    while at < end {
+        if both(kind(marks, n, at) == AVARIABLE, num(nums, n, at) == x) {
+            return true;
+        }
+        at += 1;
     }
-    if both(kind(marks, n, j) == AVARIABLE, num(nums, n, j) == x) {
-        return true;
-    }
-    stands(marks, nums, n, end, j + 1, x)
+    false
 }
 
 // "11 a `neq` side not atomic, or its `?a` in neither input nor output": these stand before `end`.
@@ -211,59 +208,54 @@ fn sides(
 ) -> Walked
     ensures { λ r. ⌜ r ≡ sidesAt (now (marks .entry)) (now (nums .entry)) (now (ats .entry)) n runs fuel end uses i ⌝ }
 {
-    if fuel == 0 {
-        return Walked {
-            past: i,
-            names: Verdict::Fine,
-            uses: uses,
-        };
+    let mut left = fuel;
+    let mut fault = uses;
+    let mut at = i;
+    while 0 < left {
+        if key(marks, n, at) == CLOSE {
+            return Walked {
+                past: at,
+                names: Verdict::Fine,
+                uses: fault,
+            };
+        }
+        let c = two_sides(marks, nums, ats, n, runs, end, ahead(n, 1, at));
+        let next = c.past;
+        let u = c.uses;
+        fault = first(fault, u);
+        at = next;
+        left -= 1;
     }
-    if key(marks, n, i) == CLOSE {
-        return Walked {
-            past: i,
-            names: Verdict::Fine,
-            uses: uses,
-        };
+    Walked {
+        past: at,
+        names: Verdict::Fine,
+        uses: fault,
     }
-    let c = two_sides(marks, nums, ats, n, runs, end, ahead(n, 1, i));
-    let next = c.past;
-    let u = c.uses;
-    sides(
-        marks,
-        nums,
-        ats,
-        n,
-        runs,
-        fuel - 1,
-        end,
-        first(uses, u),
-        next,
-    )
 }
 
 // A numeral of the text from `i` on, `left` digits at most; `v` is what the digits before come to.
 pub(crate) fn numeral(text: &[u8], left: usize, i: usize, v: usize) -> usize
     ensures { λ r. ⌜ r ≡ numeralFrom (now (text .entry)) left i v ⌝ }
 {
-    if left == 0 {
-        return v;
+    let mut more = left;
+    let mut at = i;
+    let mut value = v;
+    while 0 < more {
+        let b = byte(text, at);
+        if b < 48 {
+            return value;
+        }
+        if 57 < b {
+            return value;
+        }
+        if 1000000 <= value {
+            return value;
+        }
+        at = ahead(text.len(), 1, at);
+        value = 10 * value + (b - 48) as usize;
+        more -= 1;
     }
-    let b = byte(text, i);
-    if b < 48 {
-        return v;
-    }
-    if 57 < b {
-        return v;
-    }
-    if 1000000 <= v {
-        return v;
-    }
-    numeral(
-        text,
-        left - 1,
-        ahead(text.len(), 1, i),
-        10 * v + (b - 48) as usize,
-    )
+    value
 }
 
 // "N is 0 to 1,000, W 0 to 1,000,000, T 0 to 256"; the non-equalities end at `c`.

@@ -1,5 +1,5 @@
-// The readers of 01 ("Texts", "From the input"): what the texts mean is defined in the crate `language`, and what the functions over
-// stored tokens come to in specs/.
+// The check of a job (01, "From the input": 10 to 12) over stored tokens, grammar and check joined into one verdict for each text, and where the
+// parts of an accepted text stand. What the texts mean is defined in the crate `language`, and what the functions come to in specs/.
 mod check_job;
 pub mod ends;
 pub mod heads;

@@ -1,4 +1,4 @@
--- Both branches of a condition, taken by what its term asks, lead to the two successors of specs/Trace.antt.
+-- Both branches of a condition, taken by what its term asks, lead to the two successors of semantics/specs/Trace.antt.
 use Prim.Native.Nat.{ℕ, _+_, _*_, _≤_, _<_}
 use mathlib.Core.Path.{_≡_, refl, ap, _∙_, sym as inv}
 use mathlib.Core.Bool.{Bool, true, false, cond}

@@ -1,4 +1,4 @@
--- The engine's transitions lead to the successors of specs/Trace.antt: a configuration in cells goes to cells that hold the next one.
+-- The engine's transitions lead to the successors of semantics/specs/Trace.antt: a configuration in cells goes to cells that hold the next one.
 use Prim.Native.Nat.{ℕ, _+_, _*_, _≤_, _<_}
 use mathlib.Core.Path.{_≡_, refl, ap, subst, _∙_, sym as inv}
 use mathlib.Core.Bool.{Bool, true, false}

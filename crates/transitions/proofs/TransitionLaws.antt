@@ -1,4 +1,4 @@
--- Each transition in cells leaves cells that hold the successor of specs/Trace.antt.
+-- Each transition in cells leaves cells that hold the successor of semantics/specs/Trace.antt.
 use Prim.Native.Nat.{ℕ, _+_, _-_, _*_, _/_, _%_, _≤_, _<_}
 use mathlib.Core.Path.{_≡_, refl, ap, _∙_, sym as inv}
 use mathlib.Core.Bool.{Bool, true, false, cond}

@@ -4,26 +4,36 @@
 //     ura list PROG JOB     the listing of the program in the file PROG and the job in the file JOB
 //     ura run PROG JOB      the same program run forwards on the job's inputs
 //
-// A listing or a run is printed as 01 has it, or the refusal. "A file that cannot be read counts as empty."
-mod files;
-mod pages;
+// A listing or a run is printed as 01 has it, or the refusal. "A file that cannot be read counts as empty." Where standard output does not
+// take all of it, standard error says so.
 mod words;
 
 use libc::STDERR_FILENO;
+use pages::files::JOB;
+use pages::files::PROGRAM;
+use pages::files::read_file;
+use pages::output::Written;
+use pages::output::list_texts;
+use pages::output::run_texts;
+use pages::part::part;
 
-// One byte more than a text may have, so that a longer file is refused with 1.
-const PROGRAM: usize = 32769;
-
-const JOB: usize = 8193;
+// Lines that are missing must not go unnoticed: a loader is released from the list.
+fn report(written: Written) {
+    if written.whole {
+        return;
+    }
+    os::fail(b"ura: standard output");
+    io::write_all(STDERR_FILENO, b"ura: what was printed is NOT COMPLETE\n");
+}
 
 fn list_here() {
     let mut program_space = [0u8; PROGRAM];
     let mut job_space = [0u8; JOB];
     let program: &mut [u8] = &mut program_space;
     let job: &mut [u8] = &mut job_space;
-    let p = files::read_file(b"prog.tsg", program);
-    let j = files::read_file(b"job.txt", job);
-    pages::list_texts(words::part(program, 0, p), words::part(job, 0, j));
+    let p = read_file(b"prog.tsg", program);
+    let j = read_file(b"job.txt", job);
+    report(list_texts(part(program, 0, p), part(job, 0, j)));
 }
 
 // The files that the second and the third argument name.
@@ -32,13 +42,13 @@ fn of_files(runs: bool) {
     let mut job_space = [0u8; JOB];
     let program: &mut [u8] = &mut program_space;
     let job: &mut [u8] = &mut job_space;
-    let p = files::read_argument(2, program);
-    let j = files::read_argument(3, job);
+    let p = words::read_argument(2, program);
+    let j = words::read_argument(3, job);
     if runs {
-        pages::run_texts(words::part(program, 0, p), words::part(job, 0, j));
+        report(run_texts(part(program, 0, p), part(job, 0, j)));
         return;
     }
-    pages::list_texts(words::part(program, 0, p), words::part(job, 0, j));
+    report(list_texts(part(program, 0, p), part(job, 0, j)));
 }
 
 fn main() {

@@ -1,20 +1,6 @@
 // Words of the command line.
-ghost use Prim.Native.Nat.{_≤_};
-
-fn least(a: usize, b: usize) -> usize
-    ensures { λ r. ⌜ (r ≤ a) × (r ≤ b) ⌝ }
-{
-    if a < b { a } else { b }
-}
-
-// The bytes from one place up to another; there are none past the text's end.
-pub fn part(text: &[u8], from: usize, to: usize) -> &[u8] {
-    let end = least(to, text.len());
-    if end < from {
-        return &text[..0];
-    }
-    &text[from..end]
-}
+use pages::files::read_file;
+use pages::part::part;
 
 fn alike(a: &[u8], b: &[u8]) -> bool {
     if a.len() != b.len() {
@@ -40,4 +26,14 @@ pub fn is_argument(i: usize, word: &[u8]) -> bool {
         return false;
     }
     alike(part(&arg, 0, n), word)
+}
+
+// The bytes of the file that argument i names, as many as buf has room for: how many they are.
+pub fn read_argument(i: usize, buf: &mut [u8]) -> usize {
+    let mut path = io::buffer();
+    let n = os::arg(i, &mut path);
+    if os::errno() != 0 {
+        return 0;
+    }
+    read_file(part(&path, 0, n), buf)
 }

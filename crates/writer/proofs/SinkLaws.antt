@@ -1,13 +1,15 @@
 -- Texts written one behind the other are written as one, and what the window shows in the end.
 use Prim.Native.Nat.{ℕ, zero, suc, _+_, _-_, _≤_, _<_, min}
 use mathlib.Core.Path.{_≡_, refl, ap, ap₂, _∙_, sym}
+use mathlib.Core.Bool.{Bool, true, false, cond}
 use mathlib.Core.List.{List, [], _∷_, _++_, append-assoc}
 use native.Mathlib.Omega.{arith}
-use borrow.Author.Tests.{lt-ltb, le-ltb}
+use borrow.Author.Tests.{lt-ltb, le-ltb, leb-true}
+use lib.Dec.{leb, ltb}
 use lib.ListN.{length, take, drop, replicate, set, length-append, length-replicate, length-drop}
 use lib.Seq.{take-nil, drop-nil, set-append-seam}
 use Rattle.writer.specs.declared.sink.Place.{Place}
-use Rattle.writer.specs.Sink.{Sink, sink, opening, pushed, puts, windowed, Printed}
+use Rattle.writer.specs.Sink.{Sink, sink, opening, pushed, full, puts, windowed, Printed}
 
 pub puts-append : (s : Sink) (a b : List ℕ) → puts s (a ++ b) ≡ puts (puts s a) b
 unfolding puts
@@ -29,6 +31,22 @@ behind s a b e f = f ∙ ap (λ (x : Sink). puts x b) e ∙ sym (puts-append s a
 -- what is left to write from here on is what was to be written from the start
 pub onward : (s t : Sink) {u : Sink} (a b whole : List ℕ) → puts s whole ≡ puts t (a ++ b) → u ≡ puts t a → puts s whole ≡ puts u b
 onward s t a b whole e f = e ∙ puts-append t a b ∙ ap (λ (x : Sink). puts x b) (sym f)
+
+-- a full window takes nothing more
+open-test : (x y : Bool) → cond x false y ≡ true → (x ≡ false) × (y ≡ true)
+open-test true y e = let z : _≡_ {A = ℕ} 0 1 = cc in absurd (omega arith)
+open-test false y e = (refl, e)
+
+drops : (p : Place) (o : List ℕ) (b : ℕ) → full p (length o) ≡ true → pushed (sink p o) b ≡ sink p o
+unfolding pushed full
+drops p o b e =
+    let t = open-test (ltb 0 (p .skip)) (leb (length o) (p .at)) e in
+    rw (t .0, le-ltb (p .at) (length o) (leb-true _ _ (t .1)))
+
+pub puts-full : (p : Place) (o text : List ℕ) → full p (length o) ≡ true → puts (sink p o) text ≡ sink p o
+unfolding puts
+puts-full p o [] e = refl
+puts-full p o (b ∷ text) e = ap (λ (s : Sink). puts s text) (drops p o b e) ∙ puts-full p o text e
 
 abbrev place : ℕ → ℕ → Place
 place k n = record { skip = k; at = n }

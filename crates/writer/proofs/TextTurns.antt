@@ -1,5 +1,5 @@
 -- One turn of each loop over cells, as a step of the text.
-use Prim.Native.Nat.{ℕ, suc, _+_, _-_, _≤_, _<_, min}
+use Prim.Native.Nat.{ℕ, zero, suc, _+_, _-_, _≤_, _<_, min}
 use mathlib.Core.Path.{_≡_, refl, ap, _∙_, sym}
 use mathlib.Core.List.{List, [], _∷_, _++_, append-assoc}
 use native.Mathlib.Omega.{arith}
@@ -123,9 +123,23 @@ module _ (name : ℕ → List ℕ) (vars : List ℕ) (lines i : ℕ) (l : List �
   unfolding linesText
   lines-end h = let z : lines - i ≡ 0 = omega arith in rw z
 
-  pub lines-step : i < lines → linesText name vars (lines - i) i l ≡ lineText name vars (i + 1) l ++ linesText name vars (lines - (i + 1)) (i + 1) (drop (lineEnd l) l)
+  -- no cells are left
+  pub lines-out : length l ≤ 0 → linesText name vars (lines - i) i l ≡ []
   unfolding linesText
-  lines-step h = let z : lines - i ≡ suc (lines - (i + 1)) = omega arith in rw z
+  lines-out = go (lines - i) l
+    where
+      go : (n : ℕ) (s : List ℕ) → length s ≤ 0 → linesText name vars n i s ≡ []
+      go zero s g = refl
+      go (suc n) [] g = refl
+      go (suc n) (x ∷ s) g = absurd (omega arith)
+
+  pub lines-step : i < lines → 0 < length l → linesText name vars (lines - i) i l ≡ lineText name vars (i + 1) l ++ linesText name vars (lines - (i + 1)) (i + 1) (drop (lineEnd l) l)
+  unfolding linesText
+  lines-step h = let z : lines - i ≡ suc (lines - (i + 1)) = omega arith in rw z (go l)
+    where
+      go : (s : List ℕ) → 0 < length s → linesText name vars (suc (lines - (i + 1))) i s ≡ lineText name vars (i + 1) s ++ linesText name vars (lines - (i + 1)) (i + 1) (drop (lineEnd s) s)
+      go [] g = absurd (omega arith)
+      go (x ∷ s) g = refl
 
 -- a refusal's text in the order in which it is written
 pub refusal-text : (letter number offset : ℕ) →

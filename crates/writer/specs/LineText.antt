@@ -55,7 +55,8 @@ module _ (name : ℕ → List ℕ) (vars : List ℕ) where
   lineText i l =
       (digits i ++ (32 ∷ digits (getD l 0 0))) ++ bindingsText name vars (part 4 (classEnd l) l) ++ restrictionText name (part (classEnd l) (lineEnd l) l) ++ (10 ∷ [])
 
-  -- n lines behind the line number i
+  -- n lines behind the line number i, but no more than stand in l
   unfoldable pub linesText : ℕ → ℕ → List ℕ → List ℕ
   linesText zero i l = []
-  linesText (suc n) i l = lineText (i + 1) l ++ linesText n (i + 1) (drop (lineEnd l) l)
+  linesText (suc n) i [] = []
+  linesText (suc n) i (x ∷ l) = lineText (i + 1) (x ∷ l) ++ linesText n (i + 1) (drop (lineEnd (x ∷ l)) (x ∷ l))

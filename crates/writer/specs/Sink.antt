@@ -1,9 +1,9 @@
 -- A text written through a window, byte by byte, and what the window shows in the end.
 use Prim.Native.Nat.{ℕ, _+_, _-_, min}
 use mathlib.Core.Path.{_≡_}
-use mathlib.Core.Bool.{cond}
+use mathlib.Core.Bool.{Bool, false, cond}
 use mathlib.Core.List.{List, [], _∷_, _++_}
-use lib.Dec.{ltb}
+use lib.Dec.{leb, ltb}
 use lib.ListN.{length, take, drop, set, replicate}
 use Rattle.writer.specs.declared.sink.Place.{Place}
 
@@ -24,6 +24,10 @@ unfoldable pub pushed : Sink → ℕ → Sink
 pushed s b =
     cond (ltb 0 (s .place .skip)) (sink (record { skip = s .place .skip - 1; at = s .place .at }) (s .out))
     (cond (ltb (s .place .at) (length (s .out))) (sink (record { skip = s .place .skip; at = s .place .at + 1 }) (set (s .out) (s .place .at) b)) s)
+
+-- nothing is left to pass over and the window of this size is full: what follows is dropped
+unfoldable pub full : Place → ℕ → Bool
+full p size = cond (ltb 0 (p .skip)) false (leb size (p .at))
 
 unfoldable pub puts : Sink → List ℕ → Sink
 puts s [] = s

@@ -7,6 +7,7 @@ use crate::parts::ahead;
 use crate::parts::part;
 use crate::parts::rest;
 use crate::sink::Place;
+use crate::sink::is_full;
 use crate::sink::put_byte;
 use crate::sink::put_text;
 use sets::cell;
@@ -102,7 +103,7 @@ fn put_line(
     put_byte(out, q, b'\n')
 }
 
-// As many lines, one behind the other.
+// As many lines, one behind the other, as far as there are cells and as the window takes them. So it ends soon whatever number is handed in.
 pub fn put_lines(
     out: &mut [u8],
     place: Place,
@@ -119,6 +120,12 @@ pub fn put_lines(
     let mut i: usize = 0;
     let mut at: usize = 0;
     while i < lines {
+        if answer.len() <= at {
+            return p;
+        }
+        if is_full(p, out.len()) {
+            return p;
+        }
         let line = rest(answer, at);
         i += 1;
         p = put_line(out, p, program, job, symbols, io, i, line);

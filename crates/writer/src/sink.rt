@@ -3,7 +3,7 @@
 ghost use mathlib.Core.Path.{_≡_};
 ghost use mathlib.Core.List.{_∷_, []};
 ghost use lib.ListN.{replicate, length};
-ghost use Rattle.writer.specs.Sink.{opening, sink, puts};
+ghost use Rattle.writer.specs.Sink.{opening, sink, full, puts};
 
 // `skip` bytes of the text are still to be passed over; `at` of the window are written.
 pub struct Place {
@@ -64,6 +64,18 @@ pub fn clear(out: &mut [u8])
     for i in 0..out.len() {
         out[i] = 0;
     }
+}
+
+// Whether all that follows is dropped: a text need not be made further then.
+pub fn is_full(place: Place, size: usize) -> bool
+    ensures { λ r. ⌜ r ≡ full place size ⌝ }
+{
+    let skip = place.skip;
+    let at = place.at;
+    if 0 < skip {
+        return false;
+    }
+    size <= at
 }
 
 // The window from the byte `from` of the text on.

@@ -16,6 +16,7 @@ use entry::{compare, short};
 use listings::List;
 use reference::generate::{case, limit_cases, Case};
 use runs::Run;
+use std::time::Instant;
 
 /// How many checks went well, and what the others said.
 #[derive(Default)]
@@ -49,7 +50,21 @@ fn ground(name: &str, texts: &Case, tally: &mut Tally) {
     tally.add(&format!("{name}, ground inputs"), listings::meaning(&texts.program, &texts.job, 200));
 }
 
+// A print ends where the cells end, whatever number of lines it is handed.
+fn endless(texts: &Case, tally: &mut Tally) {
+    let (work, answer) = raugvite::list_lengths();
+    let (mut work, mut answer) = (vec![0; work], vec![0; answer]);
+    raugvite::list_in(&texts.program, &texts.job, &mut work, &mut answer);
+    for lines in [100_000_000, usize::MAX] {
+        let began = Instant::now();
+        raugvite::print_list(&texts.program, &texts.job, raugvite::Listed::Whole { lines, count: 0 }, &answer);
+        let took = began.elapsed().as_secs();
+        tally.add("a listing that claims lines without end", if took < 5 { Ok(()) } else { Err(format!("{took} s")) });
+    }
+}
+
 fn library(seed: u64, count: u64, tally: &mut Tally) {
+    endless(&case(seed), tally);
     for (i, limit) in limit_cases().iter().enumerate() {
         entries(&format!("limit {i}"), i as u64, &limit.case, tally);
     }

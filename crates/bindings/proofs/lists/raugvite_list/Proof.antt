@@ -1,14 +1,14 @@
 use Rattle.bindings.proofs.NumberLaws.{both-stored}
-use Rattle.bindings.specs.ListNumbers.{caseOf, firstOf, secondOf}
+use Rattle.answers.specs.ListNumbers.{caseOf, firstOf, secondOf}
 use mathlib.Core.Path.{ap, _∙_}
 use borrow.Author.Needs.{needs}
 use Rattle.bindings.proofs.lists.raugvite_list.Statement.{statement}
 use Rattle.bindings.proofs.lists.raugvite_list.Tie as tie
 use Rattle.bindings.proofs.lists.raugvite_list.Reads as reads
 use Rattle.bindings.proofs.lists.raugvite_list.Lts as lts
-use Rattle.bindings.proofs.lists.case_of.Reads as case-of-reads
-use Rattle.bindings.proofs.lists.first_of.Reads as first-of-reads
-use Rattle.bindings.proofs.lists.second_of.Reads as second-of-reads
+use Rattle.answers.proofs.list.case_of.Reads as case-of-reads
+use Rattle.answers.proofs.list.first_of.Reads as first-of-reads
+use Rattle.answers.proofs.list.second_of.Reads as second-of-reads
 use Rattle.bindings.proofs.numbers.store.Reads as store-reads
 use Rattle.resolve.proofs.list.list.Reads as list-reads
 

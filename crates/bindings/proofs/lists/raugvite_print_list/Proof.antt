@@ -1,4 +1,4 @@
-use Rattle.resolve.specs.declared.list.Answer.{Answer}
+use Rattle.answers.specs.declared.list.Answer.{Answer}
 use Rattle.print.proofs.ListTurns.{same-text}
 use Rattle.print.specs.ListedText.{listedText}
 use mathlib.Core.Path.{ap}
@@ -7,7 +7,7 @@ use Rattle.bindings.proofs.lists.raugvite_print_list.Statement.{stateme
 use Rattle.bindings.proofs.lists.raugvite_print_list.Tie as tie
 use Rattle.bindings.proofs.lists.raugvite_print_list.Reads as reads
 use Rattle.bindings.proofs.lists.raugvite_print_list.Lts as lts
-use Rattle.bindings.proofs.lists.answer_from.Reads as answer-from-reads
+use Rattle.answers.proofs.list.answer_from.Reads as answer-from-reads
 use Rattle.print.proofs.list.print_list.Reads as print-list-reads
 
 answer-from-requires : tie.Need-answer-from-requires

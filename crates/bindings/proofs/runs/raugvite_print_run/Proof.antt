@@ -1,4 +1,4 @@
-use Rattle.resolve.specs.declared.run.Answer.{Answer}
+use Rattle.answers.specs.declared.run.Answer.{Answer}
 use Rattle.print.proofs.ListTurns.{same-text}
 use Rattle.print.specs.RanText.{ranText}
 use mathlib.Core.Path.{ap}
@@ -7,7 +7,7 @@ use Rattle.bindings.proofs.runs.raugvite_print_run.Statement.{statement
 use Rattle.bindings.proofs.runs.raugvite_print_run.Tie as tie
 use Rattle.bindings.proofs.runs.raugvite_print_run.Reads as reads
 use Rattle.bindings.proofs.runs.raugvite_print_run.Lts as lts
-use Rattle.bindings.proofs.runs.answer_from.Reads as answer-from-reads
+use Rattle.answers.proofs.run.answer_from.Reads as answer-from-reads
 use Rattle.print.proofs.ran.print_run.Reads as print-run-reads
 
 answer-from-requires : tie.Need-answer-from-requires

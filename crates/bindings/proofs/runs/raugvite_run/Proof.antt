@@ -1,5 +1,5 @@
 use Rattle.bindings.proofs.NumberLaws.{both-stored}
-use Rattle.bindings.specs.RunNumbers.{caseOf, firstOf, secondOf}
+use Rattle.answers.specs.RunNumbers.{caseOf, firstOf, secondOf}
 use mathlib.Core.Path.{ap, _∙_}
 use borrow.Author.Needs.{needs}
 use Rattle.bindings.proofs.runs.raugvite_run.Statement.{statement}
@@ -7,9 +7,9 @@ use Rattle.bindings.proofs.runs.raugvite_run.Tie as tie
 use Rattle.bindings.proofs.runs.raugvite_run.Reads as reads
 use Rattle.bindings.proofs.runs.raugvite_run.Lts as lts
 use Rattle.bindings.proofs.numbers.store.Reads as store-reads
-use Rattle.bindings.proofs.runs.case_of.Reads as case-of-reads
-use Rattle.bindings.proofs.runs.first_of.Reads as first-of-reads
-use Rattle.bindings.proofs.runs.second_of.Reads as second-of-reads
+use Rattle.answers.proofs.run.case_of.Reads as case-of-reads
+use Rattle.answers.proofs.run.first_of.Reads as first-of-reads
+use Rattle.answers.proofs.run.second_of.Reads as second-of-reads
 use Rattle.resolve.proofs.run.run.Reads as run-reads
 
 run-requires : tie.Need-run-requires

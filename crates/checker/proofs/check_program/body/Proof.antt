@@ -25,11 +25,7 @@ term-requires c κs = search needs
 
 returns : tie.Need-returns
 returns c =
-    let c1 = c .before in
-    let c2 = c1 .before in
-    let c3 = c2 .before in
-    let c4 = c3 .before in
-    rw (c .term .ensures, c1 .params .ensures, c2 .ahead2 .ensures, c3 .params-end .ensures, c4 .ahead .ensures)
+    rw (c .term .ensures .0, c .before .before .before .params .ensures, c .before .before .before .before .ahead2 .ensures, c .before .before .before .before .before .params-end .ensures, c .before .before .before .before .before .before .ahead .ensures)
 
 pub body-spec : {M : Type 1} → statement M
 body-spec =

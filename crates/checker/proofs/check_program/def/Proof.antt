@@ -4,7 +4,6 @@ use Rattle.checker.proofs.check_program.def.Tie as tie
 use Rattle.checker.proofs.check_program.def.Reads as reads
 use Rattle.checker.proofs.check_program.def.Lts as lts
 use Rattle.checker.proofs.check.first.Reads as first-reads
-use Rattle.checker.proofs.check.none.Reads as none-reads
 use Rattle.checker.proofs.check_program.add.Reads as add-reads
 use Rattle.checker.proofs.check_program.head_twice.Reads as head-twice-reads
 use Rattle.checker.proofs.check_program.params_twice.Reads as params-twice-reads
@@ -19,9 +18,6 @@ walked-body-requires c κs = search needs
 
 head-twice-requires : tie.Need-head-twice-requires
 head-twice-requires c κs = search needs
-
-none-requires : tie.Need-none-requires
-none-requires c κs = search needs
 
 ahead-requires-2 : tie.Need-ahead-requires-2
 ahead-requires-2 c κs = search needs
@@ -43,16 +39,7 @@ add-requires c κs = search needs
 
 returns : tie.Need-returns
 returns c =
-    let c1 = c .before in
-    let c2 = c1 .before in
-    let c3 = c2 .before in
-    let c4 = c3 .before in
-    let c5 = c4 .before in
-    let c6 = c5 .before in
-    let c7 = c6 .before in
-    let c11 = c7 .before .before .before .before in
-    let c15 = c11 .before .before .before .before in
-    rw (← (c15 .ahead .ensures), ← (c11 .walked-body .ensures), ← (c7 .head-twice .ensures), ← (c6 .none .ensures), ← (c5 .ahead2 .ensures), ← (c4 .params-twice .ensures), ← (c3 .ahead3 .ensures), ← (c2 .first .ensures), ← (c1 .first2 .ensures), ← (c .add .ensures))
+    rw (← (c .before .before .before .before .before .before .before .before .before .before .before .before .before .before .ahead .ensures), ← (c .before .before .before .before .before .before .before .before .before .before .walked-body .ensures), ← (c .before .before .before .before .before .before .head-twice .ensures), ← (c .before .before .before .before .before .ahead2 .ensures), ← (c .before .before .before .before .params-twice .ensures), ← (c .before .before .before .ahead3 .ensures), ← (c .before .before .first .ensures), ← (c .before .first2 .ensures), ← (c .add .ensures))
 
 pub def-spec : {M : Type 1} → statement M
 def-spec =
@@ -61,7 +48,6 @@ def-spec =
     ahead-requires
     walked-body-requires
     head-twice-requires
-    none-requires
     ahead-requires-2
     params-twice-requires
     ahead-requires-3

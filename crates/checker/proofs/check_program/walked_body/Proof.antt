@@ -3,7 +3,6 @@ use Rattle.checker.proofs.check_program.walked_body.Statement.{statemen
 use Rattle.checker.proofs.check_program.walked_body.Tie as tie
 use Rattle.checker.proofs.check_program.walked_body.Reads as reads
 use Rattle.checker.proofs.check_program.walked_body.Lts as lts
-use Rattle.checker.proofs.check.none.Reads as none-reads
 use Rattle.checker.proofs.check_program.params_end.Reads as params-end-reads
 use Rattle.checker.proofs.check_terms.term.Reads as term-reads
 use Rattle.checker.proofs.places.ahead.Reads as ahead-reads
@@ -17,27 +16,12 @@ params-end-requires c κs = search needs
 ahead-requires-2 : tie.Need-ahead-requires-2
 ahead-requires-2 c κs = search needs
 
-none-requires : tie.Need-none-requires
-none-requires c κs = search needs
-
 term-requires : tie.Need-term-requires
 term-requires c κs = search needs
 
 returns : tie.Need-returns
-returns c =
-    let c1 = c .before in
-    let c2 = c1 .before in
-    let c3 = c2 .before in
-    let c4 = c3 .before in
-    rw (← (c4 .ahead .ensures), ← (c3 .params-end .ensures), ← (c2 .ahead2 .ensures), ← (c1 .none .ensures), ← (c .term .ensures))
+returns c = rw (← (c .before .before .before .before .ahead .ensures), ← (c .before .before .before .params-end .ensures), ← (c .before .before .ahead2 .ensures), ← (c .term .ensures .0))
 
 pub walked-body-spec : {M : Type 1} → statement M
 walked-body-spec =
-    tie.close
-    (tie.spec
-    ahead-requires
-    params-end-requires
-    ahead-requires-2
-    none-requires
-    term-requires
-    returns)
+    tie.close (tie.spec ahead-requires params-end-requires ahead-requires-2 term-requires returns)

@@ -1,6 +1,8 @@
+use native.Mathlib.Nat.{le-refl}
 use native.Mathlib.Omega.{arith}
 use borrow.Author.Tests.{eq-eqb, ne-eqb}
 use Rattle.checker.proofs.CheckOpenings.{term-more, term-none}
+use Rattle.checker.proofs.ReachLaws.{at-most, kept-all, kept-on, put-kept, put-more, term-kept, consp-found, by-way}
 use borrow.Author.Needs.{needs}
 use Prim.Native.Nat.{ℕ, _+_, _<_}
 use borrow.Fn.Kinds.{In}
@@ -17,7 +19,7 @@ use Rattle.checker.proofs.check_terms.+consp+eqa+term.Lts-term as term-
 use Rattle.checker.proofs.check.first.Reads as first-reads
 use Rattle.checker.proofs.check.judge.Reads as judge-reads
 use Rattle.checker.proofs.check.negated.Reads as negated-reads
-use Rattle.checker.proofs.check.push.Reads as push-reads
+use Rattle.checker.proofs.check.put.Reads as put-reads
 use Rattle.checker.proofs.check_expressions.ea.Reads as ea-reads
 use Rattle.checker.proofs.check_expressions.exp.Reads as exp-reads
 use Rattle.checker.proofs.check_expressions.leaf.Reads as leaf-reads
@@ -30,40 +32,40 @@ use Rattle.checker.proofs.places.offset.Reads as offset-reads
 use Rattle.checker.proofs.check_terms.+consp+eqa+term.{statement}
 use Rattle.checker.proofs.check_terms.+consp+eqa+term.Tie.{close}
 
-abbrev μ-consp : Measures 4 consp-kinds.ps ℕ
+abbrev μ-consp : Measures 5 consp-kinds.ps ℕ
 μ-consp κs a = a .1 .1 .1 .1 .1 .1 .0 + a .1 .1 .1 .1 .1 .1 .0 + 1
 
-abbrev μ-eqa : Measures 4 eqa-kinds.ps ℕ
+abbrev μ-eqa : Measures 5 eqa-kinds.ps ℕ
 μ-eqa κs a = a .1 .1 .1 .1 .1 .1 .0 + a .1 .1 .1 .1 .1 .1 .0 + 1
 
-abbrev μ-term : Measures 4 term-kinds.ps ℕ
+abbrev μ-term : Measures 5 term-kinds.ps ℕ
 μ-term κs a = a .1 .1 .1 .1 .1 .1 .0 + a .1 .1 .1 .1 .1 .1 .0
 
-abbrev consp-at : ℕ → In 4 consp-kinds.ps
-consp-at t = and 4 consp-kinds.ps (is 4 consp-kinds.ps μ-consp t) consp.Pre
+abbrev consp-at : ℕ → In 5 consp-kinds.ps
+consp-at t = and 5 consp-kinds.ps (is 5 consp-kinds.ps μ-consp t) consp.Pre
 
-abbrev consp-below : ℕ → In 4 consp-kinds.ps
-consp-below t = and 4 consp-kinds.ps (falls 4 consp-kinds.ps _<_ μ-consp t) consp.Pre
+abbrev consp-below : ℕ → In 5 consp-kinds.ps
+consp-below t = and 5 consp-kinds.ps (falls 5 consp-kinds.ps _<_ μ-consp t) consp.Pre
 
-abbrev eqa-at : ℕ → In 4 eqa-kinds.ps
-eqa-at t = and 4 eqa-kinds.ps (is 4 eqa-kinds.ps μ-eqa t) eqa.Pre
+abbrev eqa-at : ℕ → In 5 eqa-kinds.ps
+eqa-at t = and 5 eqa-kinds.ps (is 5 eqa-kinds.ps μ-eqa t) eqa.Pre
 
-abbrev eqa-below : ℕ → In 4 eqa-kinds.ps
-eqa-below t = and 4 eqa-kinds.ps (falls 4 eqa-kinds.ps _<_ μ-eqa t) eqa.Pre
+abbrev eqa-below : ℕ → In 5 eqa-kinds.ps
+eqa-below t = and 5 eqa-kinds.ps (falls 5 eqa-kinds.ps _<_ μ-eqa t) eqa.Pre
 
-abbrev term-at : ℕ → In 4 term-kinds.ps
-term-at t = and 4 term-kinds.ps (is 4 term-kinds.ps μ-term t) term.Pre
+abbrev term-at : ℕ → In 5 term-kinds.ps
+term-at t = and 5 term-kinds.ps (is 5 term-kinds.ps μ-term t) term.Pre
 
-abbrev term-below : ℕ → In 4 term-kinds.ps
-term-below t = and 4 term-kinds.ps (falls 4 term-kinds.ps _<_ μ-term t) term.Pre
+abbrev term-below : ℕ → In 5 term-kinds.ps
+term-below t = and 5 term-kinds.ps (falls 5 term-kinds.ps _<_ μ-term t) term.Pre
 
 consp-ahead-requires : (t : ℕ) → consp-lts.Need-ahead-requires (
   ahead-reads.Asked,
   ahead-reads.Learnt,
   exp-reads.Asked,
   exp-reads.Learnt,
-  push-reads.Asked,
-  push-reads.Learnt,
+  put-reads.Asked,
+  put-reads.Learnt,
   term-below t,
   term.Post,
   num-reads.Asked,
@@ -84,8 +86,8 @@ consp-exp-requires : (t : ℕ) → consp-lts.Need-exp-requires (
   ahead-reads.Learnt,
   exp-reads.Asked,
   exp-reads.Learnt,
-  push-reads.Asked,
-  push-reads.Learnt,
+  put-reads.Asked,
+  put-reads.Learnt,
   term-below t,
   term.Post,
   num-reads.Asked,
@@ -106,8 +108,8 @@ consp-ahead-requires-2 : (t : ℕ) → consp-lts.Need-ahead-requires-2 (
   ahead-reads.Learnt,
   exp-reads.Asked,
   exp-reads.Learnt,
-  push-reads.Asked,
-  push-reads.Learnt,
+  put-reads.Asked,
+  put-reads.Learnt,
   term-below t,
   term.Post,
   num-reads.Asked,
@@ -128,8 +130,8 @@ consp-ahead-requires-3 : (t : ℕ) → consp-lts.Need-ahead-requires-3 (
   ahead-reads.Learnt,
   exp-reads.Asked,
   exp-reads.Learnt,
-  push-reads.Asked,
-  push-reads.Learnt,
+  put-reads.Asked,
+  put-reads.Learnt,
   term-below t,
   term.Post,
   num-reads.Asked,
@@ -145,13 +147,13 @@ consp-ahead-requires-3 : (t : ℕ) → consp-lts.Need-ahead-requires-3 (
 ) (consp-at t) consp.Post
 consp-ahead-requires-3 t c κs = search needs
 
-consp-push-requires : (t : ℕ) → consp-lts.Need-push-requires (
+consp-put-requires : (t : ℕ) → consp-lts.Need-put-requires (
   ahead-reads.Asked,
   ahead-reads.Learnt,
   exp-reads.Asked,
   exp-reads.Learnt,
-  push-reads.Asked,
-  push-reads.Learnt,
+  put-reads.Asked,
+  put-reads.Learnt,
   term-below t,
   term.Post,
   num-reads.Asked,
@@ -165,15 +167,15 @@ consp-push-requires : (t : ℕ) → consp-lts.Need-push-requires (
   first-reads.Asked,
   first-reads.Learnt,
 ) (consp-at t) consp.Post
-consp-push-requires t c κs = search needs
+consp-put-requires t c κs = search needs
 
-consp-push-requires-2 : (t : ℕ) → consp-lts.Need-push-requires-2 (
+consp-put-requires-2 : (t : ℕ) → consp-lts.Need-put-requires-2 (
   ahead-reads.Asked,
   ahead-reads.Learnt,
   exp-reads.Asked,
   exp-reads.Learnt,
-  push-reads.Asked,
-  push-reads.Learnt,
+  put-reads.Asked,
+  put-reads.Learnt,
   term-below t,
   term.Post,
   num-reads.Asked,
@@ -187,15 +189,15 @@ consp-push-requires-2 : (t : ℕ) → consp-lts.Need-push-requires-2 (
   first-reads.Asked,
   first-reads.Learnt,
 ) (consp-at t) consp.Post
-consp-push-requires-2 t c κs = search needs
+consp-put-requires-2 t c κs = search needs
 
 consp-ahead-requires-4 : (t : ℕ) → consp-lts.Need-ahead-requires-4 (
   ahead-reads.Asked,
   ahead-reads.Learnt,
   exp-reads.Asked,
   exp-reads.Learnt,
-  push-reads.Asked,
-  push-reads.Learnt,
+  put-reads.Asked,
+  put-reads.Learnt,
   term-below t,
   term.Post,
   num-reads.Asked,
@@ -216,8 +218,8 @@ consp-term-requires : (t : ℕ) → consp-lts.Need-term-requires (
   ahead-reads.Learnt,
   exp-reads.Asked,
   exp-reads.Learnt,
-  push-reads.Asked,
-  push-reads.Learnt,
+  put-reads.Asked,
+  put-reads.Learnt,
   term-below t,
   term.Post,
   num-reads.Asked,
@@ -233,13 +235,13 @@ consp-term-requires : (t : ℕ) → consp-lts.Need-term-requires (
 ) (consp-at t) consp.Post
 consp-term-requires t c κs = search needs
 
-consp-push-requires-3 : (t : ℕ) → consp-lts.Need-push-requires-3 (
+consp-put-requires-3 : (t : ℕ) → consp-lts.Need-put-requires-3 (
   ahead-reads.Asked,
   ahead-reads.Learnt,
   exp-reads.Asked,
   exp-reads.Learnt,
-  push-reads.Asked,
-  push-reads.Learnt,
+  put-reads.Asked,
+  put-reads.Learnt,
   term-below t,
   term.Post,
   num-reads.Asked,
@@ -253,15 +255,15 @@ consp-push-requires-3 : (t : ℕ) → consp-lts.Need-push-requires-3 (
   first-reads.Asked,
   first-reads.Learnt,
 ) (consp-at t) consp.Post
-consp-push-requires-3 t c κs = search needs
+consp-put-requires-3 t c κs = search needs
 
 consp-term-requires-2 : (t : ℕ) → consp-lts.Need-term-requires-2 (
   ahead-reads.Asked,
   ahead-reads.Learnt,
   exp-reads.Asked,
   exp-reads.Learnt,
-  push-reads.Asked,
-  push-reads.Learnt,
+  put-reads.Asked,
+  put-reads.Learnt,
   term-below t,
   term.Post,
   num-reads.Asked,
@@ -276,8 +278,7 @@ consp-term-requires-2 : (t : ℕ) → consp-lts.Need-term-requires-2 (
   first-reads.Learnt,
 ) (consp-at t) consp.Post
 consp-term-requires-2 t c κs =
-    let s = c .before .before .before .before .before .before .before .before .before .before .before .before .before .before .before .before in
-    let e = s .pre .0 in
+    let e = c .before .before .before .before .before .before .before .before .before .before .before .before .before .before .before .before .before .before .before .before .pre .0 in
     (omega (arith, e), search needs)
 
 consp-num-requires : (t : ℕ) → consp-lts.Need-num-requires (
@@ -285,8 +286,8 @@ consp-num-requires : (t : ℕ) → consp-lts.Need-num-requires (
   ahead-reads.Learnt,
   exp-reads.Asked,
   exp-reads.Learnt,
-  push-reads.Asked,
-  push-reads.Learnt,
+  put-reads.Asked,
+  put-reads.Learnt,
   term-below t,
   term.Post,
   num-reads.Asked,
@@ -307,8 +308,8 @@ consp-num-requires-2 : (t : ℕ) → consp-lts.Need-num-requires-2 (
   ahead-reads.Learnt,
   exp-reads.Asked,
   exp-reads.Learnt,
-  push-reads.Asked,
-  push-reads.Learnt,
+  put-reads.Asked,
+  put-reads.Learnt,
   term-below t,
   term.Post,
   num-reads.Asked,
@@ -329,8 +330,8 @@ consp-negated-requires : (t : ℕ) → consp-lts.Need-negated-requires (
   ahead-reads.Learnt,
   exp-reads.Asked,
   exp-reads.Learnt,
-  push-reads.Asked,
-  push-reads.Learnt,
+  put-reads.Asked,
+  put-reads.Learnt,
   term-below t,
   term.Post,
   num-reads.Asked,
@@ -351,8 +352,8 @@ consp-offset-requires : (t : ℕ) → consp-lts.Need-offset-requires (
   ahead-reads.Learnt,
   exp-reads.Asked,
   exp-reads.Learnt,
-  push-reads.Asked,
-  push-reads.Learnt,
+  put-reads.Asked,
+  put-reads.Learnt,
   term-below t,
   term.Post,
   num-reads.Asked,
@@ -373,8 +374,8 @@ consp-judge-requires : (t : ℕ) → consp-lts.Need-judge-requires (
   ahead-reads.Learnt,
   exp-reads.Asked,
   exp-reads.Learnt,
-  push-reads.Asked,
-  push-reads.Learnt,
+  put-reads.Asked,
+  put-reads.Learnt,
   term-below t,
   term.Post,
   num-reads.Asked,
@@ -395,8 +396,8 @@ consp-ahead-requires-5 : (t : ℕ) → consp-lts.Need-ahead-requires-5 (
   ahead-reads.Learnt,
   exp-reads.Asked,
   exp-reads.Learnt,
-  push-reads.Asked,
-  push-reads.Learnt,
+  put-reads.Asked,
+  put-reads.Learnt,
   term-below t,
   term.Post,
   num-reads.Asked,
@@ -417,8 +418,8 @@ consp-first-requires : (t : ℕ) → consp-lts.Need-first-requires (
   ahead-reads.Learnt,
   exp-reads.Asked,
   exp-reads.Learnt,
-  push-reads.Asked,
-  push-reads.Learnt,
+  put-reads.Asked,
+  put-reads.Learnt,
   term-below t,
   term.Post,
   num-reads.Asked,
@@ -439,8 +440,8 @@ consp-first-requires-2 : (t : ℕ) → consp-lts.Need-first-requires-2 (
   ahead-reads.Learnt,
   exp-reads.Asked,
   exp-reads.Learnt,
-  push-reads.Asked,
-  push-reads.Learnt,
+  put-reads.Asked,
+  put-reads.Learnt,
   term-below t,
   term.Post,
   num-reads.Asked,
@@ -461,8 +462,8 @@ consp-first-requires-3 : (t : ℕ) → consp-lts.Need-first-requires-3 (
   ahead-reads.Learnt,
   exp-reads.Asked,
   exp-reads.Learnt,
-  push-reads.Asked,
-  push-reads.Learnt,
+  put-reads.Asked,
+  put-reads.Learnt,
   term-below t,
   term.Post,
   num-reads.Asked,
@@ -483,8 +484,8 @@ consp-first-requires-4 : (t : ℕ) → consp-lts.Need-first-requires-4 (
   ahead-reads.Learnt,
   exp-reads.Asked,
   exp-reads.Learnt,
-  push-reads.Asked,
-  push-reads.Learnt,
+  put-reads.Asked,
+  put-reads.Learnt,
   term-below t,
   term.Post,
   num-reads.Asked,
@@ -505,8 +506,8 @@ consp-returns : (t : ℕ) → consp-lts.Need-returns (
   ahead-reads.Learnt,
   exp-reads.Asked,
   exp-reads.Learnt,
-  push-reads.Asked,
-  push-reads.Learnt,
+  put-reads.Asked,
+  put-reads.Learnt,
   term-below t,
   term.Post,
   num-reads.Asked,
@@ -521,26 +522,17 @@ consp-returns : (t : ℕ) → consp-lts.Need-returns (
   first-reads.Learnt,
 ) (consp-at t) consp.Post
 consp-returns t c =
-    let c1 = c .before in
-    let c2 = c1 .before in
-    let c3 = c2 .before in
-    let c4 = c3 .before in
-    let c5 = c4 .before in
-    let c6 = c5 .before in
-    let c7 = c6 .before in
-    let c8 = c7 .before in
-    let c9 = c8 .before in
-    let c10 = c9 .before in
-    let c11 = c10 .before in
-    let c12 = c11 .before in
-    let c13 = c12 .before in
-    let c14 = c13 .before in
-    let c15 = c14 .before in
-    let c16 = c15 .before in
-    let c17 = c16 .before in
-    let c18 = c17 .before in
-    let c19 = c18 .before in
-    rw (← (c19 .ahead .ensures), ← (c18 .exp .ensures), ← (c17 .ahead2 .ensures), ← (c16 .ahead3 .ensures), ← (c15 .push .ensures), ← (c14 .push2 .ensures), ← (c13 .ahead4 .ensures), ← (c12 .term .ensures), ← (c11 .push3 .ensures), ← (c10 .term2 .ensures), ← (c9 .num .ensures), ← (c8 .num2 .ensures), ← (c7 .negated .ensures), ← (c6 .offset .ensures), ← (c5 .judge .ensures), ← (c4 .ahead5 .ensures), ← (c3 .first .ensures), ← (c2 .first2 .ensures), ← (c1 .first3 .ensures), ← (c .first4 .ensures))
+    let one = c .before .before .before .before .before .before .before .before .before .before .before .before .before .before .before .before .before .before .before .put .ensures in
+    let two = c .before .before .before .before .before .before .before .before .before .before .before .before .before .before .before .before .before .put2 .ensures in
+    let other = c .before .before .before .before .before .before .before .before .before .before .before .before .put3 .ensures in
+    let more = put-more one in
+    let first = kept-on more (put-kept one) (put-kept two) in
+    let much = put-more two in
+    let k = kept-on (at-most more much) first (c .before .before .before .before .before .before .before .before .before .before .before .before .before .before .term .ensures .1) in
+    let found = consp-found _ _ _ _ _ _ _ _ _ (c .before .before .before .before .before .before .before .before .before .before .before .before .before .before .before .before .before .before .before .before .before .before .before .before .ahead .ensures) (c .before .before .before .before .before .before .before .before .before .before .before .before .before .before .before .before .before .before .before .before .before .before .before .exp .ensures) (c .before .before .before .before .before .before .before .before .before .before .before .before .before .before .before .before .before .before .before .before .before .before .ahead2 .ensures) (c .before .before .before .before .before .before .before .before .before .before .before .before .before .before .before .before .before .before .before .before .before .ahead3 .ensures) one two (c .before .before .before .before .before .before .before .before .before .before .before .before .before .before .before .before .ahead4 .ensures) (c .before .before .before .before .before .before .before .before .before .before .before .before .before .before .term .ensures .0) k other (c .before .before .before .before .before .before .before .before .before .before .term2 .ensures .0) in (
+      by-way found (rw (← (c .before .before .before .before .before .before .before .before .before .num .ensures), ← (c .before .before .before .before .before .before .before .before .num2 .ensures), ← (c .before .before .before .before .before .before .before .negated .ensures), ← (c .before .before .before .before .before .before .offset .ensures), ← (c .before .before .before .before .before .judge .ensures), ← (c .before .before .before .before .ahead5 .ensures), ← (c .before .before .before .first .ensures), ← (c .before .before .first2 .ensures), ← (c .before .first3 .ensures), ← (c .first4 .ensures))),
+      kept-on (put-more other) (kept-on (le-refl _) k (put-kept other)) (c .before .before .before .before .before .before .before .before .before .before .term2 .ensures .1),
+    )
 
 eqa-ahead-requires : (t : ℕ) → eqa-lts.Need-ahead-requires (
   ahead-reads.Asked,
@@ -613,8 +605,7 @@ eqa-term-requires-2 : (t : ℕ) → eqa-lts.Need-term-requires-2 (
   first-reads.Learnt,
 ) (eqa-at t) eqa.Post
 eqa-term-requires-2 t c κs =
-    let s = c .before .before .before .before .before .before .before .before .before .before .before .before .before .before .before in
-    let e = s .pre .0 in
+    let e = c .before .before .before .before .before .before .before .before .before .before .before .before .before .before .before .pre .0 in
     (omega (arith, e), search needs)
 
 eqa-ahead-requires-3 : (t : ℕ) → eqa-lts.Need-ahead-requires-3 (
@@ -688,17 +679,10 @@ eqa-returns : (t : ℕ) → eqa-lts.Need-returns (
   first-reads.Learnt,
 ) (eqa-at t) eqa.Post
 eqa-returns t c =
-    let c1 = c .before in
-    let c2 = c1 .before in
-    let c3 = c2 .before in
-    let c4 = c3 .before in
-    let c5 = c4 .before in
-    let c6 = c5 .before in
-    let c7 = c6 .before in
-    let c8 = c7 .before in
-    let c12 = c8 .before .before .before .before in
-    let c13 = c12 .before in
-    rw (← (c13 .ahead .ensures), ← (c12 .ea .ensures), ← (c8 .ea2 .ensures), ← (c7 .ahead2 .ensures), ← (c6 .term .ensures), ← (c5 .term2 .ensures), ← (c4 .ahead3 .ensures), ← (c3 .first .ensures), ← (c2 .first2 .ensures), ← (c1 .first3 .ensures), ← (c .first4 .ensures))
+    let k = c .before .before .before .before .before .before .before .term .ensures .1 in (
+      rw (← (c .before .before .before .before .before .before .before .before .before .before .before .before .before .before .ahead .ensures), ← (c .before .before .before .before .before .before .before .before .before .before .before .before .before .ea .ensures), ← (c .before .before .before .before .before .before .before .before .before .before .ea2 .ensures), ← (c .before .before .before .before .before .before .before .before .ahead2 .ensures), ← (c .before .before .before .before .before .before .before .term .ensures .0), ← (term-kept _ _ _ _ _ _ _ _ _ k), ← (c .before .before .before .before .before .term2 .ensures .0), ← (c .before .before .before .before .ahead3 .ensures), ← (c .before .before .before .first .ensures), ← (c .before .before .first2 .ensures), ← (c .before .first3 .ensures), ← (c .first4 .ensures)),
+      kept-on (le-refl _) k (c .before .before .before .before .before .term2 .ensures .1),
+    )
 
 term-leaf-requires : (t : ℕ) → term-lts.Need-leaf-requires (
   leaf-reads.Asked,
@@ -735,8 +719,7 @@ term-returns : (t : ℕ) → term-lts.Need-returns (
   pair-reads.Learnt,
 ) (term-at t) term.Post
 term-returns t c =
-    let c4 = c .before .before .before .before in
-    rw (term-none (c4 .if1 .taken), ← (c .leaf .ensures))
+    (rw (term-none (c .before .before .before .if1 .taken), ← (c .leaf .ensures)), kept-all _ _)
 
 term-key-requires : (t : ℕ) → term-lts.Need-key-requires (
   leaf-reads.Asked,
@@ -845,13 +828,7 @@ term-returns-2 : (t : ℕ) → term-lts.Need-returns-2 (
   pair-reads.Learnt,
 ) (term-at t) term.Post
 term-returns-2 t c =
-    let c4 = c .before .before .before .before in
-    let c5 = c4 .before in
-    let c6 = c5 .before in
-    let c7 = c6 .before in
-    let c8 = c7 .before in
-    let c9 = c8 .before in
-    rw (term-more (c9 .if1 .left), ← (c8 .key .ensures), eq-eqb _ _ (c7 .if2 .taken), ← (c6 .ahead .ensures), ← (c5 .key2 .ensures), eq-eqb _ _ (c4 .if3 .taken), ← (c .call .ensures))
+    (rw (term-more (c .before .before .before .before .before .before .before .before .if1 .left), ← (c .before .before .before .before .before .before .before .key .ensures), eq-eqb _ _ (c .before .before .before .before .before .before .if2 .taken), ← (c .before .before .before .before .before .ahead .ensures), ← (c .before .before .before .before .key2 .ensures), eq-eqb _ _ (c .before .before .before .if3 .taken), ← (c .call .ensures)), kept-all _ _)
 
 term-ahead-requires-2 : (t : ℕ) → term-lts.Need-ahead-requires-2 (
   leaf-reads.Asked,
@@ -942,17 +919,7 @@ term-returns-3 : (t : ℕ) → term-lts.Need-returns-3 (
   pair-reads.Learnt,
 ) (term-at t) term.Post
 term-returns-3 t c =
-    let c1 = c .before in
-    let c2 = c1 .before in
-    let c3 = c2 .before in
-    let c4 = c3 .before in
-    let c5 = c4 .before in
-    let c6 = c5 .before in
-    let c7 = c6 .before in
-    let c8 = c7 .before in
-    let c9 = c8 .before in
-    let c10 = c9 .before in
-    rw (term-more (c10 .if1 .left), ← (c9 .key .ensures), eq-eqb _ _ (c8 .if2 .taken), ← (c7 .ahead .ensures), ← (c6 .key2 .ensures), ne-eqb _ _ (c5 .if3 .left), eq-eqb _ _ (c4 .if4 .taken), ← (c3 .ahead2 .ensures), ← (c2 .key3 .ensures), eq-eqb _ _ (c1 .if5 .taken), ← (c .eqa .ensures))
+    (rw (term-more (c .before .before .before .before .before .before .before .before .before .before .before .if1 .left), ← (c .before .before .before .before .before .before .before .before .before .before .key .ensures), eq-eqb _ _ (c .before .before .before .before .before .before .before .before .before .if2 .taken), ← (c .before .before .before .before .before .before .before .before .ahead .ensures), ← (c .before .before .before .before .before .before .before .key2 .ensures), ne-eqb _ _ (c .before .before .before .before .before .before .if3 .left), eq-eqb _ _ (c .before .before .before .before .before .if4 .taken), ← (c .before .before .before .before .ahead2 .ensures), ← (c .before .before .before .key3 .ensures), eq-eqb _ _ (c .before .before .if5 .taken), ← (c .eqa .ensures .0)), c .eqa .ensures .1)
 
 term-sub-consp : (t : ℕ) → term-lts.Need-sub-consp (
   leaf-reads.Asked,
@@ -1007,17 +974,7 @@ term-returns-4 : (t : ℕ) → term-lts.Need-returns-4 (
   pair-reads.Learnt,
 ) (term-at t) term.Post
 term-returns-4 t c =
-    let c1 = c .before in
-    let c2 = c1 .before in
-    let c3 = c2 .before in
-    let c4 = c3 .before in
-    let c5 = c4 .before in
-    let c6 = c5 .before in
-    let c7 = c6 .before in
-    let c8 = c7 .before in
-    let c9 = c8 .before in
-    let c10 = c9 .before in
-    rw (term-more (c10 .if1 .left), ← (c9 .key .ensures), eq-eqb _ _ (c8 .if2 .taken), ← (c7 .ahead .ensures), ← (c6 .key2 .ensures), ne-eqb _ _ (c5 .if3 .left), eq-eqb _ _ (c4 .if4 .taken), ← (c3 .ahead2 .ensures), ← (c2 .key3 .ensures), ne-eqb _ _ (c1 .if5 .left), ← (c .consp .ensures))
+    (rw (term-more (c .before .before .before .before .before .before .before .before .before .before .before .if1 .left), ← (c .before .before .before .before .before .before .before .before .before .before .key .ensures), eq-eqb _ _ (c .before .before .before .before .before .before .before .before .before .if2 .taken), ← (c .before .before .before .before .before .before .before .before .ahead .ensures), ← (c .before .before .before .before .before .before .before .key2 .ensures), ne-eqb _ _ (c .before .before .before .before .before .before .if3 .left), eq-eqb _ _ (c .before .before .before .before .before .if4 .taken), ← (c .before .before .before .before .ahead2 .ensures), ← (c .before .before .before .key3 .ensures), ne-eqb _ _ (c .before .before .if5 .left), ← (c .consp .ensures .0)), c .consp .ensures .1)
 
 term-sub-pair : (t : ℕ) → term-lts.Need-sub-pair (
   leaf-reads.Asked,
@@ -1072,14 +1029,7 @@ term-returns-5 : (t : ℕ) → term-lts.Need-returns-5 (
   pair-reads.Learnt,
 ) (term-at t) term.Post
 term-returns-5 t c =
-    let c4 = c .before .before .before .before in
-    let c5 = c4 .before in
-    let c6 = c5 .before in
-    let c7 = c6 .before in
-    let c8 = c7 .before in
-    let c9 = c8 .before in
-    let c10 = c9 .before in
-    rw (term-more (c10 .if1 .left), ← (c9 .key .ensures), eq-eqb _ _ (c8 .if2 .taken), ← (c7 .ahead .ensures), ← (c6 .key2 .ensures), ne-eqb _ _ (c5 .if3 .left), ne-eqb _ _ (c4 .if4 .left), ← (c .pair .ensures))
+    (rw (term-more (c .before .before .before .before .before .before .before .before .before .if1 .left), ← (c .before .before .before .before .before .before .before .before .key .ensures), eq-eqb _ _ (c .before .before .before .before .before .before .before .if2 .taken), ← (c .before .before .before .before .before .before .ahead .ensures), ← (c .before .before .before .before .before .key2 .ensures), ne-eqb _ _ (c .before .before .before .before .if3 .left), ne-eqb _ _ (c .before .before .before .if4 .left), ← (c .pair .ensures)), kept-all _ _)
 
 term-leaf-requires-2 : (t : ℕ) → term-lts.Need-leaf-requires-2 (
   leaf-reads.Asked,
@@ -1116,10 +1066,7 @@ term-returns-6 : (t : ℕ) → term-lts.Need-returns-6 (
   pair-reads.Learnt,
 ) (term-at t) term.Post
 term-returns-6 t c =
-    let c4 = c .before .before .before .before in
-    let c5 = c4 .before in
-    let c6 = c5 .before in
-    rw (term-more (c6 .if1 .left), ← (c5 .key .ensures), ne-eqb _ _ (c4 .if2 .left), ← (c .leaf2 .ensures))
+    (rw (term-more (c .before .before .before .before .before .if1 .left), ← (c .before .before .before .before .key .ensures), ne-eqb _ _ (c .before .before .before .if2 .left), ← (c .leaf2 .ensures)), kept-all _ _)
 
 pub +consp+eqa+term-spec : {M : Type 1} → statement M
 +consp+eqa+term-spec = close μ-consp μ-eqa μ-term (λ t. consp-lts.spec (
@@ -1127,8 +1074,8 @@ pub +consp+eqa+term-spec : {M : Type 1} → statement M
   ahead-reads.Learnt,
   exp-reads.Asked,
   exp-reads.Learnt,
-  push-reads.Asked,
-  push-reads.Learnt,
+  put-reads.Asked,
+  put-reads.Learnt,
   term-below t,
   term.Post,
   num-reads.Asked,
@@ -1148,11 +1095,11 @@ pub +consp+eqa+term-spec : {M : Type 1} → statement M
     (consp-exp-requires t)
     (consp-ahead-requires-2 t)
     (consp-ahead-requires-3 t)
-    (consp-push-requires t)
-    (consp-push-requires-2 t)
+    (consp-put-requires t)
+    (consp-put-requires-2 t)
     (consp-ahead-requires-4 t)
     (consp-term-requires t)
-    (consp-push-requires-3 t)
+    (consp-put-requires-3 t)
     (consp-term-requires-2 t)
     (consp-num-requires t)
     (consp-num-requires-2 t)

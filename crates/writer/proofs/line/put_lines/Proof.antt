@@ -1,12 +1,13 @@
 use mathlib.Core.Path.{_≡_, refl, ap, _∙_, sym}
-use Prim.Native.Nat.{ℕ, _+_, _-_, min}
+use Prim.Native.Nat.{ℕ, _+_, _-_, _<_, min}
 use mathlib.Core.List.{List, _++_}
-use lib.ListN.{length, drop}
+use native.Mathlib.Omega.{arith}
+use lib.ListN.{length, drop, length-drop}
 use Rattle.writer.specs.Sink.{sink, puts}
-use Rattle.writer.proofs.SinkLaws.{onward, puts-none}
+use Rattle.writer.proofs.SinkLaws.{onward, puts-none, puts-full}
 use Rattle.writer.specs.TreeText.{symbolText}
 use Rattle.writer.specs.LineText.{lineEnd, lineText, linesText}
-use Rattle.writer.proofs.TextTurns.{lines-start, lines-step, lines-end, drop-ahead}
+use Rattle.writer.proofs.TextTurns.{lines-start, lines-out, lines-step, lines-end, drop-ahead}
 use borrow.Author.Needs.{needs}
 use Rattle.writer.proofs.line.put_lines.Statement.{statement}
 use Rattle.writer.proofs.line.put_lines.Tie as tie
@@ -16,6 +17,7 @@ use Rattle.writer.proofs.line.line_end.Reads as line-end-reads
 use Rattle.writer.proofs.line.put_line.Reads as put-line-reads
 use Rattle.writer.proofs.parts.ahead.Reads as ahead-reads
 use Rattle.writer.proofs.parts.rest.Reads as rest-reads
+use Rattle.writer.proofs.sink.is_full.Reads as is-full-reads
 
 abbrev Inv-loop : tie.InvT-loop
 Inv-loop out₀ program job symbols io lines answer p₀ i₀ at₀ out p i at = (length out ≡ length out₀) × (puts (sink p₀ out₀) (linesText (symbolText program job symbols) io lines 0 answer) ≡ puts (sink p out) (linesText (symbolText program job symbols) io (lines - i) i (drop at answer)))
@@ -25,6 +27,26 @@ abbrev μ-loop : tie.MeasureT-loop
 
 loop-holds : tie.Need-loop-holds Inv-loop μ-loop
 loop-holds c = (refl, ap (puts _) (lines-start _ _ _ _))
+
+same-length : tie.Need-same-length Inv-loop μ-loop
+same-length c = c .before .before .loop .inv .0
+
+returns : tie.Need-returns Inv-loop μ-loop
+returns c =
+    let l = c .before .before .loop in
+    let s = c .before .before .before .before .before .before .before .before .before .args .answer .now in
+    sym (l .inv .1 ∙ ap (puts _) (lines-out _ _ _ (l .i) _ (omega (arith, c .if1 .taken, length-drop (l .at) s))) ∙ puts-none _)
+
+is-full-requires : tie.Need-is-full-requires Inv-loop μ-loop
+is-full-requires c κs = search needs
+
+same-length-2 : tie.Need-same-length-2 Inv-loop μ-loop
+same-length-2 c = c .before .before .before .before .loop .inv .0
+
+returns-2 : tie.Need-returns-2 Inv-loop μ-loop
+returns-2 c =
+    let l = c .before .before .before .before .loop in
+    sym (l .inv .1 ∙ puts-full _ _ _ (sym (c .before .is-full .ensures) ∙ c .if2 .taken))
 
 rest-requires : tie.Need-rest-requires Inv-loop μ-loop
 rest-requires c κs = search needs
@@ -46,23 +68,24 @@ loop-less c = search needs
 
 loop-again : tie.Need-loop-again Inv-loop μ-loop
 loop-again c =
-    let l = c .before .before .before .before .before .before .before .before .loop in
-    let a = c .before .before .before .before .before .before .before .before .before .before .before .before .before .before .before .args in
-    let h = c .before .before .before .before .before .before .before .loop-test .taken in
+    let l = c .before .before .before .before .before .before .before .before .before .before .before .loop in
+    let a = c .before .before .before .before .before .before .before .before .before .before .before .before .before .before .before .before .before .before .args in
+    let h = c .before .before .before .before .before .before .before .before .before .before .loop-test .taken in
     let name = symbolText (a .program .now) (a .job .now) (a .symbols .now) in
     let s = a .answer .now in
-    let r = (c .before .before .before .before .before .before .rest .ensures) in
-    let n = (c .ahead .ensures) ∙ ap (λ (k : ℕ). min (l .at + k) (length s)) ((c .before .line-end .ensures) ∙ ap lineEnd r) in
+    let stands : 0 < length (drop (l .at) s) = omega (arith, c .before .before .before .before .before .before .before .before .before .if1 .left, length-drop (l .at) s) in
+    let r = c .before .before .before .before .before .before .rest .ensures in
+    let n = c .ahead .ensures ∙ ap (λ (k : ℕ). min (l .at + k) (length s)) (c .before .line-end .ensures ∙ ap lineEnd r) in
     let next = ap (linesText name (a .io .now) (a .lines - (l .i + 1)) (l .i + 1)) (drop-ahead s (l .at) (lineEnd (drop (l .at) s)) ∙ ap (λ (k : ℕ). drop k s) (sym n)) in
-    let step = lines-step name (a .io .now) (a .lines) (l .i) (drop (l .at) s) h in
-    let put = (c .before .before .before .before .put-line .ensures) ∙ ap (puts _) (ap (lineText name (a .io .now) (l .i + 1)) r) in
+    let step = lines-step name (a .io .now) (a .lines) (l .i) (drop (l .at) s) h stands in
+    let put = c .before .before .before .before .put-line .ensures ∙ ap (puts _) (ap (lineText name (a .io .now) (l .i + 1)) r) in
     (c .before .before .before .before .put-line .kept .0 ∙ l .inv .0, onward _ _ _ _ _ (l .inv .1 ∙ ap (puts _) (step ∙ ap (λ (t : List ℕ). lineText name (a .io .now) (l .i + 1) (drop (l .at) s) ++ t) next)) put)
 
-same-length : tie.Need-same-length Inv-loop μ-loop
-same-length c = c .before .loop .inv .0
+same-length-3 : tie.Need-same-length-3 Inv-loop μ-loop
+same-length-3 c = c .before .loop .inv .0
 
-returns : tie.Need-returns Inv-loop μ-loop
-returns c =
+returns-3 : tie.Need-returns-3 Inv-loop μ-loop
+returns-3 c =
     let l = c .before .loop in
     sym (l .inv .1 ∙ ap (puts _) (lines-end _ _ _ (l .i) _ (c .loop-test .left)) ∙ puts-none _)
 
@@ -73,6 +96,11 @@ put-lines-spec =
     Inv-loop
     μ-loop
     loop-holds
+    same-length
+    returns
+    is-full-requires
+    same-length-2
+    returns-2
     rest-requires
     add-i
     put-line-requires
@@ -80,5 +108,5 @@ put-lines-spec =
     ahead-requires
     loop-less
     loop-again
-    same-length
-    returns)
+    same-length-3
+    returns-3)

@@ -1,0 +1,3 @@
+pub mod ListEnding
+pub mod ListNumbers
+pub mod RunNumbers

@@ -1,2 +1,0 @@
-pub mod ListNumbers
-pub mod RunNumbers

@@ -1,0 +1,24 @@
+-- What stands in a page, and how much of a text was taken.
+use Prim.Native.Nat.{ℕ, _-_, _≤_}
+use mathlib.Core.Path.{_≡_, _∙_, ap, subst}
+use mathlib.Core.Bool.{Bool, true, false, false≢true}
+use mathlib.Core.List.{List}
+use lib.ListN.{length, take, drop, length-take}
+use native.Mathlib.Omega.{arith}
+use Rattle.writer.specs.Sink.{Printed}
+
+-- a window as long as a page is the page
+pub page-shown : (from : ℕ) {r m n : ℕ} (text : List ℕ) {x : List ℕ} → m ≡ n → Printed m from text r x → Printed n from text r x
+page-shown from {r} {m} {n} text {x} e p = subst (λ (k : ℕ). Printed k from text r x) e p
+
+-- what is not whole promises nothing
+pub not-whole : {A : Type 0} → false ≡ true → A
+not-whole h = absurd (false≢true h)
+
+-- the first n bytes are at most n
+pub part-within : (n : ℕ) {r : ℕ} (xs : List ℕ) {ys : List ℕ} → ys ≡ take (n - 0) (drop 0 xs) → r ≤ length ys → r ≤ n
+part-within n xs e h = omega (arith, h, ap (λ (zs : List ℕ). length zs) e, length-take (n - 0) (drop 0 xs))
+
+-- as many bytes as a text has, by the answer and the cells that it is printed from
+pub taken-text : {A : Type 0} (text : List ℕ → A → List ℕ) {a b : A} {c d : List ℕ} {w : Bool} {n : ℕ} → a ≡ b → c ≡ d → (w ≡ true → n ≡ length (text c a)) → w ≡ true → n ≡ length (text d b)
+taken-text {A} text {a} {b} {c} {d} e f h g = h g ∙ ap (λ (x : A). length (text c x)) e ∙ ap (λ (x : List ℕ). length (text x b)) f

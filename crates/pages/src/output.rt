@@ -1,0 +1,146 @@
+// What the entries answer, written to standard output page by page. No contract can say what is written; these say how much was taken.
+use crate::page::list_page;
+use crate::page::run_page;
+use crate::part::part;
+use libc::EAGAIN;
+use libc::EINTR;
+use libc::STDOUT_FILENO;
+use resolve::list;
+use resolve::run;
+ghost use mathlib.Core.Bool.{true};
+ghost use mathlib.Core.Path.{_≡_};
+ghost use Prim.Native.Nat.{_≤_};
+ghost use lib.ListN.{length, replicate};
+ghost use Rattle.resolve.specs.ListAnswer.{listLeft};
+ghost use Rattle.resolve.specs.RunAnswer.{runLeft};
+ghost use Rattle.print.specs.ListedText.{listedText};
+ghost use Rattle.print.specs.RanText.{ranText};
+
+// How many writes in a row may take nothing before writing counts as failed: a reader may stand still for some seconds.
+const TRIES: usize = 10000000;
+
+// How many bytes were taken, and whether that is the whole text. Where it is not, errno says why.
+pub struct Written {
+    pub bytes: usize,
+    pub whole: bool,
+}
+
+// Whether a write that took nothing may take something later: a signal came between, or the reader of a pipe that does not wait is behind.
+fn may_try_again() -> bool {
+    let error = os::errno();
+    if error == EAGAIN {
+        return true;
+    }
+    error == EINTR
+}
+
+// Writes the bytes, on after each part that is taken: how many were taken, all of them where nothing failed.
+fn write_bytes(bytes: &[u8]) -> usize
+    ensures { λ r. ⌜ r ≤ length (now (bytes .entry)) ⌝ }
+{
+    let mut done: usize = 0;
+    let mut tries: usize = 0;
+    while done < bytes.len() {
+        let left = &bytes[done..];
+        let taken = io::count(libc::write(STDOUT_FILENO, left), left);
+        if 0 < taken {
+            done += taken;
+            tries = 0;
+            continue;
+        }
+        if TRIES <= tries {
+            return done;
+        }
+        if !may_try_again() {
+            return done;
+        }
+        libc::sched_yield();
+        tries += 1;
+    }
+    done
+}
+
+// The same of the first n bytes of a page.
+fn write_page(page: &[u8; 65536], n: usize) -> usize
+    ensures { λ r. ⌜ r ≤ n ⌝ }
+{
+    write_bytes(part(page, 0, n))
+}
+
+// The lines have at most 16,384 nodes, of at most 40 bytes each with what is printed around them, and 256 numbers: 64 pages hold them.
+fn write_list(program: &[u8], job: &[u8], answer: answers::list::Answer, cells: &[u16]) -> Written
+    ensures { λ r. ⌜ (r .whole ≡ true → r .bytes ≡ length (listedText (now (program .entry)) (now (job .entry)) (now (cells .entry)) answer)) ⌝ }
+{
+    let mut page = io::large_buffer();
+    let mut bytes: usize = 0;
+    for k in 0..64u32 {
+        let n = list_page(program, job, answer, cells, k, &mut page);
+        let taken = write_page(&page, n);
+        bytes += taken;
+        if taken < n {
+            return Written {
+                bytes: bytes,
+                whole: false,
+            };
+        }
+        if n < 65536 {
+            return Written {
+                bytes: bytes,
+                whole: true,
+            };
+        }
+    }
+    Written {
+        bytes: bytes,
+        whole: false,
+    }
+}
+
+// A value of 4,096 nodes has at most 2,048 symbols of 17 bytes and 2,047 pairs of 8: the line fits one page.
+fn write_run(program: &[u8], job: &[u8], answer: answers::run::Answer, cells: &[u16]) -> Written
+    ensures { λ r. ⌜ (r .whole ≡ true → r .bytes ≡ length (ranText (now (program .entry)) (now (job .entry)) (now (cells .entry)) answer)) ⌝ }
+{
+    let mut page = io::large_buffer();
+    let n = run_page(program, job, answer, cells, 0, &mut page);
+    let taken = write_page(&page, n);
+    if taken < n {
+        return Written {
+            bytes: taken,
+            whole: false,
+        };
+    }
+    if n < 65536 {
+        return Written {
+            bytes: taken,
+            whole: true,
+        };
+    }
+    Written {
+        bytes: taken,
+        whole: false,
+    }
+}
+
+// Writes the listing of the two texts.
+pub fn list_texts(program: &[u8], job: &[u8]) -> Written
+    ensures { λ r. ⌜ (let w = listLeft (now (program .entry)) (now (job .entry)) (replicate 8194 0) (replicate 17408 0) in r .whole ≡ true → r .bytes ≡ length (listedText (now (program .entry)) (now (job .entry)) (w .cells) (w .answer))) ⌝ }
+{
+    let mut work_space = [0u16; list::WORK];
+    let mut answer_space = [0u16; list::ANSWER];
+    let work: &mut [u16] = &mut work_space;
+    let answer: &mut [u16] = &mut answer_space;
+    let said = list::list(program, job, work, answer);
+    write_list(program, job, said, answer)
+}
+
+// Writes the line of the program's run on the job's inputs.
+pub fn run_texts(program: &[u8], job: &[u8]) -> Written
+    ensures { λ r. ⌜ (let w = runLeft (now (program .entry)) (now (job .entry)) (replicate 8194 0) (replicate 4096 0) in r .whole ≡ true → r .bytes ≡ length (ranText (now (program .entry)) (now (job .entry)) (w .cells) (w .answer))) ⌝ }
+{
+    let mut work_space = [0u16; run::WORK];
+    let mut answer_space = [0u16; run::ANSWER];
+    let work: &mut [u16] = &mut work_space;
+    let answer: &mut [u16] = &mut answer_space;
+    let said = run::run(program, job, work, answer);
+    write_run(program, job, said, answer)
+}
