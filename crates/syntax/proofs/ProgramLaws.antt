@@ -17,10 +17,10 @@ use Rattle.language.specs.Reader.{is, isA}
 use Rattle.language.specs.Program.{Param, pe, pa, sameParam}
 use Rattle.language.specs.Scope.{isIn, scopeOf}
 use Rattle.language.specs.WellFormed.{hasParam}
-use Rattle.language.specs.Source.{SParam, SDef, SProg, params, placeOf, functions, progOf, prog, defs}
+use Rattle.language.specs.Source.{SParam, SDef, SProg, params, placeOf, functions, progOf, prog, defs, SCondition, STerm}
 use Rattle.language.specs.ProgramCheck.{termTwice, defsTwice, termVerdict, defsVerdict, programVerdict}
 use Rattle.language.specs.ProgramCheck as meaning
-use Rattle.syntax.specs.Standing.{WordAt, NameAt, TermAt, ParamsAt, DefAt, defineAt, DefsAt, HeadsAt, ProgramAt}
+use Rattle.syntax.specs.Standing.{WordAt, NameAt, ConditionAt, eqaAt, conspAt, TermAt, callAt, ifAt, resultAt, ParamsAt, DefAt, defineAt, DefsAt, HeadsAt, DefsFrom, ProgramAt}
 use Rattle.syntax.specs.Standing as at
 use Rattle.checker.specs.declared.check.Verdict.{Verdict}
 use Rattle.checker.specs.declared.check.Verdict.the-variants.{Fine, Fault}
@@ -28,7 +28,7 @@ use Rattle.checker.specs.declared.check.Names.{Names}
 use Rattle.checker.specs.declared.check.Defs.{Defs}
 use Rattle.checker.specs.CheckAt as check
 use Rattle.checker.specs.CheckAt.{first, judge, ahead, noNames, push, paramsTwice, defsAt, bodiesAt, programAt}
-use Rattle.syntax.proofs.CheckLaws.{coded, coded-first, coded-judge, first-fine, first-assoc, ahead-in, is-other, keys, kinds, nums, ats}
+use Rattle.syntax.proofs.CheckLaws.{coded, coded-first, coded-judge, first-fine, first-assoc, ahead-in, is-other, keys, kinds, nums, ats, exp-least, exp-most, exps-bounds}
 use Rattle.syntax.proofs.NameLaws.{Wide, wide-less, no-names-wide, push-wide, reached, push-reached, same-kind, no-names-reach, params-end, params-wide, params-reach}
 use Rattle.syntax.proofs.TermLaws.{place-at, term-at}
 
@@ -109,9 +109,18 @@ module _ (tok : ℕ → Token) (n : ℕ) where
   heads-more {heads} {j} {i} {k} {u} (at.HeadsAt.moreAt {ds = es} y f hs) x e l =
       at.HeadsAt.moreAt y (getD-set-other heads u j (i + 2) 0 (λ q. omega arith) ∙ f) (heads-more hs x (omega arith) l)
 
+  order-more : {heads : List ℕ} {j a i k u : ℕ} {ds : List SDef} {d : SDef} → DefsFrom tok n heads j a ds i → DefAt tok n i d k → i < k → j + length ds ≡ u → u < length heads →
+      DefsFrom tok n (set heads u (i + 2)) j a (ds ++ (d ∷ [])) k
+  order-more {heads} {j} {a} {i} {k} {u} (at.DefsFrom.noneFrom q) x m e l =
+      let z : j ≡ u = omega arith in
+      at.DefsFrom.moreFrom q x (ap (λ m. getD (set heads u (i + 2)) m 0) z ∙ getD-set-same heads u (i + 2) 0 l) (at.DefsFrom.noneFrom {a = k} {b = k} (omega arith))
+  order-more {heads} {j} {a} {i} {k} {u} (at.DefsFrom.moreFrom q y f hs) x m e l =
+      at.DefsFrom.moreFrom q y (getD-set-other heads u j (i + 2) 0 (λ q. omega arith) ∙ f) (order-more hs x m (omega arith) l)
+
   -- the definitions so far stand in the table, and `before` are their names
   record Built (a : Defs) (ds : List SDef) (before : List ℕ) : Type 0 where
     heads : HeadsAt tok n (a .heads) 0 ds
+    order : DefsFrom tok n (a .heads) 0 0 ds (a .past)
     count : a .count ≡ length ds
     size : length (a .heads) ≡ 64
     known : (x : ℕ) → isIn x before ≡ not (unknown x ds)
@@ -134,6 +143,23 @@ module _ (tok : ℕ → Token) (n : ℕ) where
   params-most (at.ParamsAt.noneAt x) = x .below
   params-most (at.ParamsAt.eAt b x xs) = params-most xs
   params-most (at.ParamsAt.aAt b x xs) = params-most xs
+
+  params-least : {i : ℕ} {xs : List SParam} {k : ℕ} → ParamsAt tok n i xs k → i ≤ k
+  params-least (at.ParamsAt.noneAt x) = omega arith
+  params-least (at.ParamsAt.eAt b x xs) = let y = params-least xs in omega arith
+  params-least (at.ParamsAt.aAt b x xs) = let y = params-least xs in omega arith
+
+  condition-least : {room i : ℕ} {q : SCondition} {k : ℕ} → ConditionAt tok n room i q k → i < k
+  condition-least (eqaAt o w c d e) = let x = exp-least c in let y = exp-least d in omega arith
+  condition-least (conspAt o w c h t x e) = let y = exp-least c in omega arith
+
+  pub term-bounds : {room i : ℕ} {t : STerm} {k : ℕ} → TermAt tok n room i t k → (i < k) × (k ≤ n)
+  term-bounds (callAt o w f b x c) = let y = exps-bounds tok n x in let z = y .0 in let l = c .below in (omega arith, omega arith)
+  term-bounds (ifAt o w q s u c) = let x = condition-least q in let y = term-bounds s .0 in let z = term-bounds u .0 in let l = c .below in (omega arith, omega arith)
+  term-bounds (resultAt x) = (exp-least x, exp-most x)
+
+  def-least : {i : ℕ} {d : SDef} {k : ℕ} → DefAt tok n i d k → i < k
+  def-least (defineAt o w f q p m s c) = let x = params-least p in let y = term-bounds s .0 in omega arith
 
   -- what the step comes to
   abbrev made : Defs → ℕ → ℕ → Verdict → Defs
@@ -171,6 +197,7 @@ module _ (tok : ℕ → Token) (n : ℕ) where
       let e : 0 + length ds ≡ a .count = omega arith in
       record {
         heads = heads-more (b .heads) x e (omega arith);
+        order = order-more (b .order) x (def-least x) e (omega arith);
         count = omega arith;
         size = length-set (a .heads) (a .count) (a .past + 2) ∙ z0;
         known = λ x. known-more x before ds d (b .known x);
@@ -179,6 +206,7 @@ module _ (tok : ℕ → Token) (n : ℕ) where
   -- all definitions: the table holds them, and 6 is found as in what was read
   pub record All (a : Defs) (ds : List SDef) (v : Verdict) : Type 0 where
     pub heads : HeadsAt tok n (a .heads) 0 ds
+    pub order : DefsFrom tok n (a .heads) 0 0 ds (a .past)
     pub count : a .count ≡ length ds
     pub names : a .names ≡ v
 
@@ -195,8 +223,8 @@ module _ (tok : ℕ → Token) (n : ℕ) where
   defs-at : {k : ℕ} {es : List SDef} (left : ℕ) (a : Defs) (ds : List SDef) (before : List ℕ) → DefsAt tok n (a .past) es k → Built a ds before → length es ≤ left → length ds + length es ≤ 64 →
       All (defsOf left a) (ds ++ es) (first (a .names) (coded (defsTwice before es)))
   unfolding defsAt
-  defs-at zero a ds before (at.DefsAt.noneAt x) b l m = rw (append-nil, first-fine) (record { heads = b .heads; count = b .count; names = refl })
-  defs-at (suc left) a ds before (at.DefsAt.noneAt x) b l m = rw (x .key, append-nil, first-fine) (record { heads = b .heads; count = b .count; names = refl })
+  defs-at zero a ds before (at.DefsAt.noneAt x) b l m = rw (append-nil, first-fine) (record { heads = b .heads; order = b .order; count = b .count; names = refl })
+  defs-at (suc left) a ds before (at.DefsAt.noneAt x) b l m = rw (x .key, append-nil, first-fine) (record { heads = b .heads; order = b .order; count = b .count; names = refl })
   defs-at zero a ds before (at.DefsAt.moreAt y x xs) b l m = let z : ⊥ = omega arith in absurd z
   defs-at (suc left) a ds before (at.DefsAt.moreAt {j = j} {d = d} {ds = es} y x xs) b l m =
       let u = unless (not (isIn (d .name .num) before)) 6 (d .name .at) in
@@ -252,7 +280,7 @@ program-table tok n s x =
     first-bracket (defineAt o w f q p m s c) = is-other "(" "" (tok 0) (o .key)
 
     no-built : Built tok n check.noDefs [] []
-    no-built = record { heads = at.HeadsAt.noneAt; count = refl; size = length-replicate {A = ℕ} 64 0; known = λ x. refl }
+    no-built = record { heads = at.HeadsAt.noneAt; order = at.DefsFrom.noneFrom {a = 0} {b = 0} (omega arith); count = refl; size = length-replicate {A = ℕ} 64 0; known = λ x. refl }
 
 -- what the check by position finds is what the check of the program finds
 pub program-checked : (tok : ℕ → Token) (n : ℕ) (s : SProg) → ProgramAt tok n s → programAt (keys tok n) (kinds tok n) (nums tok n) (ats tok n) n ≡ coded (programVerdict s)

@@ -16,7 +16,7 @@ use Rattle.grammar.specs.Stored.{markAt, offsetAt}
 use Rattle.grammar.specs.Stored as stored
 use Rattle.grammar.specs.Positions.{nothing}
 use Rattle.checker.specs.StoredAt.{keyAt, tagAt, numAt, atAt}
-use Rattle.syntax.specs.Standing.{ProgramAt, HeadsAt}
+use Rattle.syntax.specs.Standing.{ProgramAt, HeadsAt, DefsFrom}
 use Rattle.syntax.specs.Placed.{DefsIn}
 use Rattle.checker.specs.CheckStored.{programAt, defsAt}
 use Rattle.checker.specs.CheckAt as at
@@ -95,6 +95,9 @@ module _ (marks nums′ ats′ : List ℕ) (n : ℕ) where
 
   pub stored-heads : (s : SProg) → Holds s → HeadsAt tok n (defsAt marks nums′ ats′ n 64 noDefs .heads) 0 (defs s)
   stored-heads s h = subst (λ (ds : Defs). HeadsAt tok n (ds .heads) 0 (defs s)) (inv defs-view) (program-table tok n s (held-stands s h) .heads)
+
+  pub stored-order : (s : SProg) → Holds s → let ds = defsAt marks nums′ ats′ n 64 noDefs in DefsFrom tok n (ds .heads) 0 0 (defs s) (ds .past)
+  stored-order s h = subst (λ (ds : Defs). DefsFrom tok n (ds .heads) 0 0 (defs s) (ds .past)) (inv defs-view) (program-table tok n s (held-stands s h) .order)
 
   pub stored-few : (s : SProg) → Holds s → length (defs s) ≤ 64
   stored-few s h = let l = held-stands s h .few in omega arith

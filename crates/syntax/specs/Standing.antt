@@ -90,6 +90,12 @@ pub data HeadsAt (tok : ℕ → Token) (n : ℕ) (heads : List ℕ) : ℕ → Li
   moreAt : {i j k : ℕ} {d : SDef} {ds : List SDef} → DefAt tok n i d k → getD heads j 0 ≡ i + 2 → HeadsAt tok n heads (j + 1) ds →
       HeadsAt tok n heads j (d ∷ ds)
 
+-- the same with their order: one behind the other, from the token a to before b
+pub data DefsFrom (tok : ℕ → Token) (n : ℕ) (heads : List ℕ) : ℕ → ℕ → List SDef → ℕ → Type 0 where
+  noneFrom : {j a b : ℕ} → a ≤ b → DefsFrom tok n heads j a [] b
+  moreFrom : {a b i j k : ℕ} {d : SDef} {ds : List SDef} → a ≤ i → DefAt tok n i d k → getD heads j 0 ≡ i + 2 → DefsFrom tok n heads (j + 1) k ds b →
+      DefsFrom tok n heads j a (d ∷ ds) b
+
 -- "program: one or more of `(define F [x ..] t)`"
 pub record ProgramAt (tok : ℕ → Token) (n : ℕ) (s : SProg) : Type 0 where
   pub second : ℕ

@@ -1,0 +1,10 @@
+pub mod LinkTurns
+pub mod CodeLaws
+pub mod AgreeLaws
+pub mod TokenLaws
+pub mod NameLaws
+pub mod ExpressionLaws
+pub mod TermParts
+pub mod TermLaws
+pub mod ProgramLaws
+pub mod Accepted

@@ -1,0 +1,85 @@
+// The whole program: each definition with its parameters in reach.
+use crate::names::link_name;
+use crate::terms::Reach;
+use crate::terms::closing;
+use crate::terms::link_term;
+use crate::tokens::on;
+use crate::tokens::wide;
+use sets::cell;
+ghost use mathlib.Core.Path.{_≡_};
+ghost use Prim.Native.Nat.{_-_};
+ghost use Rattle.linking.specs.Linking.{linksLeft, linked, parametersLinked, definitionLinked, programLinked};
+
+// The parameters from p up to `to`, in order: how many are in reach then.
+fn link_parameters(
+    marks: &[u16],
+    nums: &[u16],
+    names: &mut [usize; 144],
+    code: &mut [u16; 16388],
+    p: usize,
+    to: usize,
+) -> usize
+    ensures { λ r. ⌜ linksLeft r (now (names .exit)) (now (code .exit)) ≡ parametersLinked (now (marks .entry)) (now (nums .entry)) (to - p) p 0 (now (names .entry)) (now (code .entry)) ⌝ }
+{
+    let mut used: usize = 0;
+    let mut i = p;
+    while i < to {
+        used = link_name(marks, nums, names, used, code, i);
+        i += 1;
+    }
+    used
+}
+
+// The definition whose name stands at h: its parameters two tokens on, its body behind the bracket that closes them.
+fn link_definition(
+    marks: &[u16],
+    nums: &[u16],
+    ends: &[u16],
+    heads: &[u16; 64],
+    count: usize,
+    names: &mut [usize; 144],
+    code: &mut [u16; 16388],
+    h: usize,
+)
+    ensures { λ _. ⌜ linked (now (names .exit)) (now (code .exit)) ≡ definitionLinked (now (marks .entry)) (now (nums .entry)) (now (ends .entry)) (now (heads .entry)) count h (linked (now (names .entry)) (now (code .entry))) ⌝ }
+{
+    let open = on(h, 2);
+    let close = closing(marks, open);
+    let used = link_parameters(marks, nums, names, code, open, close);
+    let reach = Reach {
+        room: 63,
+        used: used,
+    };
+    link_term(
+        marks,
+        nums,
+        ends,
+        heads,
+        count,
+        names,
+        code,
+        reach,
+        on(close, 1),
+    );
+}
+
+// The definitions of an accepted program, `count` of them, linked.
+pub fn link_program(
+    marks: &[u16],
+    nums: &[u16],
+    ends: &[u16],
+    heads: &[u16; 64],
+    count: usize,
+    code: &mut [u16; 16388],
+)
+    ensures { λ _. ⌜ now (code .exit) ≡ programLinked (now (marks .entry)) (now (nums .entry)) (now (ends .entry)) (now (heads .entry)) count (now (code .entry)) ⌝ }
+{
+    let mut names = [0usize; 144];
+    let n = cell::least(count, 64);
+    let mut j: usize = 0;
+    while j < n {
+        let h = wide(heads[j]);
+        link_definition(marks, nums, ends, heads, count, &mut names, code, h);
+        j += 1;
+    }
+}
