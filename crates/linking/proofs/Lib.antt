@@ -8,3 +8,4 @@ pub mod TermParts
 pub mod TermLaws
 pub mod ProgramLaws
 pub mod Accepted
+pub mod PlaceLaws

@@ -1,3 +1,4 @@
 pub mod Code
 pub mod Linking
 pub mod Linked
+pub mod Places

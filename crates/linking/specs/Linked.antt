@@ -2,20 +2,13 @@
 -- proofs/ProgramLaws.antt, Accepted.antt: an accepted program stands so in the code that linking leaves.
 use Prim.Native.Nat.{ℕ, zero, suc, _+_, _*_, _<_}
 use mathlib.Core.Path.{_≡_}
-use mathlib.Core.Bool.{Bool, false, cond}
+use mathlib.Core.Bool.{cond}
 use mathlib.Core.List.{List, [], _∷_, _++_}
-use lib.Dec.{eqb, ltb}
+use lib.Dec.{ltb}
 use lib.ListN.{length}
 use Rattle.expressions.specs.Expression.{sym, avar, Exp, atm, evar, pair}
-use Rattle.language.specs.Program.{eqa, consp, Term, call, conditional, result, Param, pe, pa, Def, Prog, find}
+use Rattle.language.specs.Program.{eqa, consp, Term, call, conditional, result, Param, pe, pa, sameParam, Def, Prog, find}
 use Rattle.linking.specs.Code.{link, linkAt}
-
--- "`e.x` and `a.x` are two variables"
-abbrev pub sameParam : Param → Param → Bool
-sameParam (pe x) (pe y) = eqb x y
-sameParam (pe x) (pa y) = false
-sameParam (pa x) (pe y) = false
-sameParam (pa x) (pa y) = eqb x y
 
 -- the place of a name; the number of names where it has none
 abbrev pub placeIn : Param → List Param → ℕ

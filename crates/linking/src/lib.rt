@@ -4,5 +4,5 @@ pub mod code;
 mod expression;
 mod names;
 pub mod program;
-mod terms;
+pub mod terms;
 mod tokens;

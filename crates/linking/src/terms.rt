@@ -48,8 +48,8 @@ fn head_of(nums: &[u16], heads: &[u16; 64], count: usize, name: u16) -> usize
     0
 }
 
-// The first `]` from p on.
-pub(crate) fn closing(marks: &[u16], p: usize) -> usize
+// The first `]` from p on; the parameters of a definition begin two tokens behind its name, and its body one behind this.
+pub fn closing(marks: &[u16], p: usize) -> usize
     ensures { λ r. ⌜ r ≡ closingAt (now (marks .entry)) p ⌝ }
 {
     let mut q = p;

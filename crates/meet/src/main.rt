@@ -14,74 +14,87 @@
 mod printer;
 mod reader;
 
+use heap::entry;
 use libc::STDIN_FILENO;
+use meetings::class::Class;
+use meetings::class::Met;
+use meetings::class::NODES;
+use meetings::unifier;
 use reader::Problem;
+use sets::cell;
 use sets::restriction;
 use sets::restriction::Restricted;
-use unification::intersection;
-use unification::intersection::Class;
-use unification::intersection::Met;
-use unification::intersection::NODES;
 ghost use Prim.Native.Nat.{_≤_};
 ghost use lib.ListN.{length};
 
 // A non-equality has at least 7 bytes, so that 9,362 stand in a text: two cells each.
-const NEQ_CELLS: usize = 18724;
+const WRITTEN: usize = 18724;
 
-// The intersection of the class in io, out and q; a contradiction among its non-equalities leaves nothing.
+// The entries of the two expressions, where they were read: first the wanted one.
+fn enter(frame: &mut [u16; 12360], wanted: usize, output: usize) {
+    entry::push_entry(frame, 0, 0, 0, wanted);
+    entry::push_entry(frame, 1, 0, NODES, NODES + cell::least(output, NODES));
+}
+
+// The intersection of the two expressions in the heap, with the non-equalities that were written; a contradiction among
+// these leaves nothing. Where more than 2,047 are left, they are over 4,096 nodes with any two expressions, so that q need
+// not have room for all.
 fn meet(
-    io: &mut [u16],
-    out: &mut [u16],
-    q: &mut [u16],
+    heap: &mut [u16; 65535],
+    frame: &mut [u16; 12360],
+    written: &mut [u16],
+    q: &mut [u16; 4096],
     wanted: usize,
     output: usize,
     neqs: usize,
 ) -> Met {
-    let mut io_space = [0u16; NODES];
-    let mut out_space = [0u16; NODES];
-    let io2: &mut [u16] = &mut io_space;
-    let out2: &mut [u16] = &mut out_space;
-    let simplified = restriction::simplify(q, neqs);
+    let simplified = restriction::simplify(written, neqs);
     let Restricted::Kept(n) = simplified else {
         return Met::Apart;
     };
+    cell::copy(written, 0, 2 * cell::least(n, NODES / 2), q, 0);
+    enter(frame, wanted, output);
     let class = Class {
-        ins: 0,
-        io: wanted,
-        out: output,
+        entries: 1,
+        used: 2 * NODES,
         neqs: n,
+        floor: 0,
     };
-    intersection::intersect(io, out, q, io2, out2, class)
+    unifier::unify(heap, frame, q, class)
 }
 
-// Prints what is left.
+// Prints what is left: the wanted expression is the first entry.
 fn print_met(
     page: &mut [u8],
     at: usize,
     text: &[u8],
     names: &[usize],
-    io: &[u16],
-    q: &[u16],
+    heap: &[u16; 65535],
+    frame: &[u16; 12360],
+    q: &[u16; 4096],
     met: Met,
 ) -> usize {
     match met {
-        Met::Common(c) => printer::common(page, at, text, names, io, c.io, q, c.neqs),
+        Met::Common(c) => {
+            let to = entry::wide(frame[2]);
+            let from = cell::least(entry::wide(frame[1]), to);
+            let cells: &[u16] = heap;
+            printer::common(page, at, text, names, &cells[from..to], q, c.neqs)
+        }
         Met::Apart => printer::line(page, at, b"apart"),
         Met::Over => printer::line(page, at, b"over"),
-        // Never: no storage here is shorter than that.
-        Met::Short => at,
     }
 }
 
-// Prints the answer to a problem, whose cells stand in io, out and q.
+// Prints the answer to a problem, whose cells stand in the heap and in `written`.
 fn print_answer(
     page: &mut [u8],
     at: usize,
     text: &[u8],
     names: &[usize],
-    io: &mut [u16],
-    out: &mut [u16],
-    q: &mut [u16],
+    heap: &mut [u16; 65535],
+    frame: &mut [u16; 12360],
+    written: &mut [u16],
     problem: Problem,
 ) -> usize {
     match problem {
@@ -92,24 +105,27 @@ fn print_answer(
             output,
             neqs,
         } => {
-            let met = meet(io, out, q, wanted, output, neqs);
-            print_met(page, at, text, names, io, q, met)
+            let mut q = [0u16; 4096];
+            let met = meet(heap, frame, written, &mut q, wanted, output, neqs);
+            print_met(page, at, text, names, heap, frame, &q, met)
         }
     }
 }
 
-// Prints the answer to a line.
-fn answer(text: &[u8], page: &mut [u8], at: usize) -> usize {
-    let mut io_space = [0u16; NODES];
-    let mut out_space = [0u16; NODES];
-    let mut q_space = [0u16; NEQ_CELLS];
+// Prints the answer to a line. Nothing that stands in the heap or in the frame before is read.
+fn answer(
+    text: &[u8],
+    page: &mut [u8],
+    at: usize,
+    heap: &mut [u16; 65535],
+    frame: &mut [u16; 12360],
+) -> usize {
+    let mut space = [0u16; WRITTEN];
     let mut name_space = [0usize; reader::SYMBOLS];
-    let io: &mut [u16] = &mut io_space;
-    let out: &mut [u16] = &mut out_space;
-    let q: &mut [u16] = &mut q_space;
+    let written: &mut [u16] = &mut space;
     let names: &mut [usize] = &mut name_space;
-    let problem = reader::read_problem(text, io, out, q, names);
-    print_answer(page, at, text, names, io, out, q, problem)
+    let problem = reader::read_problem(text, heap, written, names);
+    print_answer(page, at, text, names, heap, frame, written, problem)
 }
 
 // The end of the line that starts at `from`.
@@ -129,12 +145,14 @@ fn line_end(text: &[u8], from: usize) -> usize
 
 // Prints the answer to each line.
 fn answers(text: &[u8], page: &mut [u8]) -> usize {
+    let mut heap = [0u16; 65535];
+    let mut frame = [0u16; 12360];
     let mut k: usize = 0;
     let mut from: usize = 0;
     while from < text.len() {
         let end = line_end(text, from);
         let line = &text[from..end];
-        k = answer(line, page, k);
+        k = answer(line, page, k, &mut heap, &mut frame);
         from = end + 1;
     }
     k

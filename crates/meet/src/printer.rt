@@ -2,8 +2,8 @@
 // out. Each function answers the place behind what it printed.
 use crate::reader;
 use libc::STDOUT_FILENO;
+use meetings::class::NODES;
 use sets::cell;
-use unification::intersection::NODES;
 
 // The place in the page, and the pairs that are open.
 struct Printed {
@@ -121,21 +121,14 @@ fn node(
     close(page, Printed { at: at, open: open }, waits)
 }
 
-// The tree of the first n cells.
-fn tree(
-    page: &mut [u8],
-    at: usize,
-    text: &[u8],
-    names: &[usize],
-    cells: &[u16],
-    n: usize,
-) -> usize {
+// The tree whose cells these are.
+fn tree(page: &mut [u8], at: usize, text: &[u8], names: &[usize], cells: &[u16]) -> usize {
     let mut space = [0u16; NODES];
     let waits: &mut [u16] = &mut space;
     let mut printed = Printed { at: at, open: 0 };
     let mut i: usize = 0;
-    while i < n {
-        printed = node(page, printed, text, names, cell::cell(cells, i), waits);
+    while i < cells.len() {
+        printed = node(page, printed, text, names, cells[i], waits);
         i += 1;
     }
     printed.at
@@ -182,11 +175,10 @@ pub fn common(
     text: &[u8],
     names: &[usize],
     cells: &[u16],
-    n: usize,
     q: &[u16],
     neqs: usize,
 ) -> usize {
-    let expression = tree(page, at, text, names, cells, n);
+    let expression = tree(page, at, text, names, cells);
     let restriction = non_equalities(page, expression, text, names, q, neqs);
     push(page, restriction, b'\n')
 }

@@ -1,5 +1,6 @@
 // From the bytes of a line to cells. A place past the end of the line has the byte 0, which stands in no token, so a line
 // that ends early is broken at its length.
+use meetings::class::NODES;
 use sets::cell;
 use sets::contraction;
 ghost use mathlib.Core.Path.{_≡_};
@@ -442,14 +443,8 @@ fn run_cells(read: Read) -> usize {
     }
 }
 
-// A line: the wanted expression into io, the output into out, the non-equalities into q.
-pub fn read_problem(
-    text: &[u8],
-    io: &mut [u16],
-    out: &mut [u16],
-    q: &mut [u16],
-    names: &mut [usize],
-) -> Problem {
+// A line: the wanted expression into the first 4,096 cells, the output into the next, the non-equalities into q.
+pub fn read_problem(text: &[u8], cells: &mut [u16], q: &mut [u16], names: &mut [usize]) -> Problem {
     if text.len() <= token(text, 0) {
         return Problem::Blank;
     }
@@ -458,14 +453,28 @@ pub fn read_problem(
         cells: 0,
         symbols: 0,
     };
-    let wanted = expression(text, Read::On(start), BRACKETS, io, names);
-    let output = expression(text, new_run(wanted), BRACKETS, out, names);
+    let end = cell::least(2 * NODES, cells.len());
+    let middle = cell::least(NODES, end);
+    let wanted = expression(
+        text,
+        Read::On(start),
+        BRACKETS,
+        &mut cells[0..middle],
+        names,
+    );
+    let output = expression(
+        text,
+        new_run(wanted),
+        BRACKETS,
+        &mut cells[middle..end],
+        names,
+    );
     match non_equalities(text, new_run(output), q, names) {
         Read::Broken(at) => Problem::Broken(at),
-        Read::On(end) => Problem::Whole {
+        Read::On(last) => Problem::Whole {
             wanted: run_cells(wanted),
             output: run_cells(output),
-            neqs: end.cells / 2,
+            neqs: last.cells / 2,
         },
     }
 }

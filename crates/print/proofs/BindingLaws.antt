@@ -20,9 +20,12 @@ use Rattle.sets.specs.Cells.{cells, cellsAll, part, treeEnd, anyCell, standsIn}
 use Rattle.sets.proofs.CellLaws.{cells-nodes, cellsAll-nodes, Stands, stands-end, stands-behind, stands-part, head-stands}
 use Rattle.writer.specs.TreeText.{leafText, treeText}
 use Rattle.writer.specs.LineText.{pastAt, bindingText, bindingAt, bindingsFrom, bindingsText}
-use Rattle.lines.specs.LineCells.{pairCells}
 use Rattle.print.proofs.SeenLaws.{IsVariable, same-first, variable-tag, bound, Seen, seen-other, seen-added}
 use Rattle.print.proofs.TreeLaws.{firstCell, stands-first, stands-below, tail-behind, leaf-atomic, leaf-evar, tree-printed}
+
+-- inputs, then the output
+abbrev pub pairCells : IOPair → List ℕ
+pairCells p = cellsAll (p .ins) ++ cells (p .out)
 
 -- an expression beside another that is the same but for what stands in the place of variables
 abbrev pub Fits : Exp → Exp → Type 0

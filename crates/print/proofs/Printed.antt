@@ -6,7 +6,9 @@ use mathlib.Core.List.{List, [], _++_, append-assoc}
 use native.Mathlib.Omega.{arith}
 use lib.ListN.{length, take, drop, replicate, length-append}
 use lib.Seq.{take-at}
-use Rattle.sets.specs.Cells.{cells, cellsAll}
+use Rattle.expressions.specs.Expression.{Value, atom, cons, nodes}
+use Rattle.expressions.specs.Class.{IOClass}
+use Rattle.sets.specs.Cells.{cells, cellsAll, restrictionCells}
 use Rattle.sets.proofs.CellLaws.{cells-nodes, cellsAll-nodes, restrictionCells-nodes}
 use Rattle.language.specs.Bytes.{Refusal}
 use Rattle.language.specs.Tokens.{Text, ofProgram, ofJob, symbolsOf}
@@ -25,12 +27,13 @@ use Rattle.semantics.specs.Answer.{answered, walked, ran, Listed, list, run}
 use Rattle.semantics.proofs.AcceptedTexts.{run-answer, list-answer}
 use Rattle.listing.specs.Text.{printRefusal, printRefusalOfNeither, listText, runText}
 use Rattle.texts.specs.ReadCells.{zeros}
-use Rattle.runner.proofs.ForwardLaws.{embed-nodes}
 use Rattle.texts.specs.BothCells.{BothAnswer, bothOver}
 use Rattle.texts.proofs.BothRead.{zeros-length, taken, texts-by-reading}
-use Rattle.starts.proofs.StartLaws.{job-laid}
-use Rattle.starts.proofs.StartTexts.{accepted-sides, job-here, job-short}
-use Rattle.lines.specs.LineCells.{linesCells}
+use Rattle.heap.proofs.HeapLaws.{sets-cells}
+use Rattle.initial.proofs.TreeLaws.{run-drop}
+use Rattle.initial.proofs.JobLaws.{jobHeap, job-laid, laid-whole}
+use Rattle.initial.proofs.BeginTexts.{accepted-sides, job-here, job-short}
+use Rattle.ends.specs.LineCells.{linesCells}
 use Rattle.resolve.specs.RunAnswer as runs
 use Rattle.resolve.specs.ListAnswer.{worded, answerOf, cellsAfter, tooShort, listLeft}
 use Rattle.answers.specs.declared.list.Answer.{Answer}
@@ -57,12 +60,32 @@ wide = omega (arith, zeros-length 8194)
 take-both : (a b r : List ℕ) → take (length a + length b) (a ++ (b ++ r)) ≡ a ++ b
 take-both a b r = ap (take (length a + length b)) (inv (append-assoc a b r)) ∙ take-at (a ++ b) r (length a + length b) (length-append a b)
 
+-- the inputs and the output of a job that is laid out
+laid-front : (P : IOClass) (h : List ℕ) → length h ≡ 65535 → length (cellsAll (P .con .ins)) + length (cells (P .con .out)) + length (restrictionCells (P .neqs)) ≤ 65535 →
+    take (length (cellsAll (P .con .ins)) + length (cells (P .con .out))) (jobHeap P h) ≡ cellsAll (P .con .ins) ++ cells (P .con .out)
+laid-front P h full room =
+    let A = cellsAll (P .con .ins) in
+    let B = cells (P .con .out) in
+    let C = restrictionCells (P .neqs) in
+    let n = length (A ++ (B ++ C)) in
+    let z : n ≡ length A + (length B + length C) = omega (arith, length-append A (B ++ C), length-append B C) in
+    let m : 0 + n ≡ n = omega arith in
+    let s : jobHeap P h ≡ (A ++ (B ++ C)) ++ drop n (jobHeap P h) =
+    run-drop n 0 (jobHeap P h) (omega (arith, laid-whole P h full room, z)) ∙ ap (λ (w : List ℕ). w ++ drop (0 + n) (jobHeap P h)) (sets-cells (A ++ (B ++ C)) h 0 (omega (arith, z)))
+    ∙ ap (λ (k : ℕ). (A ++ (B ++ C)) ++ drop k (jobHeap P h)) m
+    in
+    ap (take (length A + length B)) (s ∙ append-assoc A (B ++ C) (drop n (jobHeap P h)) ∙ ap (λ (w : List ℕ). A ++ w) (append-assoc B C (drop n (jobHeap P h)))) ∙ take-both A B (C ++ drop n (jobHeap P h))
+
+embed-nodes : (v : Value) → nodes (embed v) ≡ nodesValue v
+embed-nodes (atom z) = refl
+embed-nodes (cons u v) = omega (arith, embed-nodes u, embed-nodes v)
+
 module _ (program job : List ℕ) where
   -- The listing, by what is read of the texts.
   abbrev namedBy : BothAnswer → List ℕ → Ending → ℕ → ℕ → List ℕ
   namedBy w d word lines count =
-      let t = jobTerms (w .job .placed .texts) (w .job .jmarks) (w .job .jnums) (replicate 4096 0) (replicate 4096 0) in
-      listingText (symbolText program job (take (2 * t .terms .symbols) (w .job .symbols))) (take (t .terms .cells) (t .io)) word lines count d
+      let t = jobTerms (w .job .placed .texts) (w .job .jmarks) (w .job .jnums) (replicate 65535 0) in
+      listingText (symbolText program job (take (2 * t .terms .symbols) (w .job .symbols))) (take (t .terms .cells) (t .heap)) word lines count d
 
   abbrev listedBy : BothAnswer → List ℕ → Answer → List ℕ
   listedBy w d (Whole lines count) = namedBy w d WholeWord lines count
@@ -99,9 +122,8 @@ module _ (program job : List ℕ) where
         let a = cellsAll-nodes (class j .con .ins) in
         let b = cells-nodes (class j .con .out) in
         let c = restrictionCells-nodes (class j .neqs) in
-        let z = zeros-length 4096 in
-        let l = job-laid here 4096 (replicate 4096 0) (replicate 4096 0) (omega arith) (omega arith) (omega (arith, short .0)) (omega (arith, short .1)) in
-        rw (l, take-both A B (drop (length B) (drop (length A) (replicate 4096 0)))) (listing-text program job p j u g room e word f rest)
+        let l = job-laid _ _ _ (class j) (replicate 65535 0) here (omega (arith, short .0, short .1)) in
+        rw (l, laid-front (class j) (replicate 65535 0) (zeros-length 65535) (omega (arith, short .0, short .1))) (listing-text program job p j u g room e word f rest)
 
     worded-text : (w : Word) → w ≡ wordOf (walked p j) →
         listedBy (taken s u j x) (linesCells (linesOf (walked p j)) ++ rest) (worded w (length (linesOf (walked p j))) (countOf (walked p j))) ≡ listText program job

@@ -16,10 +16,11 @@ use Rattle.listing.specs.Text.{letterOf, printRefusal, printAnswer, printRan, l
 use Rattle.lexer.specs.Lexed.{State}
 use Rattle.syntax.proofs.JobRead.{JobStored}
 use Rattle.print.specs.declared.list.Ending.{Ending}
-use Rattle.lines.specs.LineCells.{pairCells, linesCells}
+use Rattle.ends.specs.LineCells.{linesCells}
 use Rattle.writer.specs.TreeText.{symbolText}
 use Rattle.print.specs.ListingText.{endingWord, listingText}
 use Rattle.writer.specs.OutcomeText.{outcomeText}
+use Rattle.print.proofs.BindingLaws.{pairCells}
 use Rattle.print.proofs.LineLaws.{listing-printed}
 use Rattle.print.proofs.OutcomeLaws.{answerOf as cellsOf, outcomeOf, outcome-printed}
 use Rattle.print.proofs.NameLaws.{names-printed}

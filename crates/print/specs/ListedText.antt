@@ -7,9 +7,9 @@ use Rattle.listing.specs.Text.{printRefusal, printRefusalOfNeither}
 use Rattle.texts.specs.BothCells.{bothOver}
 use Rattle.texts.specs.declared.both.Both.{Both}
 use Rattle.texts.specs.declared.both.Both.the-variants.{Accepted, Program as OfProgram, Job as OfJob, Short as TooShort}
-use Rattle.starts.specs.StartCells.{laidJob}
-use Rattle.starts.specs.declared.start.Laid.{Laid}
-use Rattle.starts.specs.declared.start.Laid.the-variants.{Done, Over}
+use Rattle.initial.specs.Laying.{jobLaid}
+use Rattle.initial.specs.declared.job.Laid.{Laid}
+use Rattle.initial.specs.declared.job.Laid.the-variants.{Done, Over}
 use Rattle.answers.specs.declared.list.Answer.{Answer}
 use Rattle.answers.specs.declared.list.Answer.the-variants.{Whole, Cut, Stop21, Stop22, Stop23, Program, Job, Short}
 use Rattle.print.specs.declared.list.Ending.{Ending}
@@ -18,29 +18,32 @@ use Rattle.print.specs.declared.list.Terms.{Terms}
 use Rattle.writer.specs.TreeText.{symbolText}
 use Rattle.print.specs.ListingText.{listingText}
 
-pub record TermsAnswer : Type 0 where
+pub record TermsLeft : Type 0 where
   pub terms : Terms
-  pub io : List ℕ
+  pub heap : List ℕ
 
-abbrev pub termsAnswer : ℕ → ℕ → List ℕ → TermsAnswer
-termsAnswer symbols cells io = record { terms = record { symbols = symbols; cells = cells }; io = io }
+abbrev pub termsLeft : Terms → List ℕ → TermsLeft
+termsLeft t h = record { terms = t; heap = h }
 
-abbrev pub laidTerms : ℕ → List ℕ → Laid → TermsAnswer
-laidTerms symbols io (Done z) = termsAnswer symbols (z .io) io
-laidTerms symbols io Over = termsAnswer symbols 0 io
+abbrev pub termsOf : ℕ → ℕ → List ℕ → TermsLeft
+termsOf symbols cells h = termsLeft (record { symbols = symbols; cells = cells }) h
+
+abbrev pub laidTerms : ℕ → List ℕ → Laid → TermsLeft
+laidTerms symbols h (Done z) = termsOf symbols (z .io) h
+laidTerms symbols h Over = termsOf symbols 0 h
 
 -- the job's inputs and output in cells, and how many symbols the texts have
-abbrev pub jobTerms : Both → List ℕ → List ℕ → List ℕ → List ℕ → TermsAnswer
-jobTerms (Accepted count symbols e k) jmarks jnums io q = let w = laidJob jmarks jnums e 4096 io q in laidTerms symbols (w .io) (w .answer)
-jobTerms (OfProgram number offset) jmarks jnums io q = termsAnswer 0 0 io
-jobTerms (OfJob number offset) jmarks jnums io q = termsAnswer 0 0 io
-jobTerms TooShort jmarks jnums io q = termsAnswer 0 0 io
+abbrev pub jobTerms : Both → List ℕ → List ℕ → List ℕ → TermsLeft
+jobTerms (Accepted count symbols e k) jmarks jnums h = let w = jobLaid jmarks jnums e false h in laidTerms symbols (w .heap) (w .answer)
+jobTerms (OfProgram number offset) jmarks jnums h = termsOf 0 0 h
+jobTerms (OfJob number offset) jmarks jnums h = termsOf 0 0 h
+jobTerms TooShort jmarks jnums h = termsOf 0 0 h
 
 unfoldable pub namedListing : List ℕ → List ℕ → List ℕ → Ending → ℕ → ℕ → List ℕ
 namedListing program job cells word lines count =
     let j = bothOver false program job (replicate 8194 0) .job in
-    let t = jobTerms (j .placed .texts) (j .jmarks) (j .jnums) (replicate 4096 0) (replicate 4096 0) in
-    listingText (symbolText program job (take (2 * t .terms .symbols) (j .symbols))) (take (t .terms .cells) (t .io)) word lines count cells
+    let t = jobTerms (j .placed .texts) (j .jmarks) (j .jnums) (replicate 65535 0) in
+    listingText (symbolText program job (take (2 * t .terms .symbols) (j .symbols))) (take (t .terms .cells) (t .heap)) word lines count cells
 
 abbrev pub listedText : List ℕ → List ℕ → List ℕ → Answer → List ℕ
 listedText program job cells (Whole lines count) = namedListing program job cells WholeOf lines count

@@ -1,10 +1,9 @@
 // The text of a listing, from the two texts and from what `resolve::list` answered and left.
 use answers::list::Answer;
-use starts::start::Laid;
-use starts::start::lay_job;
+use initial::job::Laid;
+use initial::job::lay_job;
 use texts::both::Both;
 use texts::both::read_both;
-use unification::intersection;
 use writer::line::put_lines;
 use writer::line::put_numbers;
 use writer::parts::front;
@@ -17,7 +16,7 @@ ghost use lib.ListN.{length, take};
 ghost use Rattle.writer.specs.Sink.{Wrote, windowed};
 ghost use Rattle.writer.specs.TreeText.{symbolText};
 ghost use Rattle.print.specs.ListingText.{endingText, firstText, listingText};
-ghost use Rattle.print.specs.ListedText.{laidTerms, jobTerms, namedListing, listedText};
+ghost use Rattle.print.specs.ListedText.{termsLeft, jobTerms, namedListing, listedText};
 
 enum Ending {
     Whole,
@@ -59,13 +58,13 @@ fn put_first(out: &mut [u8], place: Place, word: Ending, lines: usize, count: us
 }
 
 // The bytes of a listing's text from the byte `from` on, as many as `out` has room for, then zeros; how many they are. The job's inputs and
-// output stand in the first `all` cells of `io`, the lines one behind the other in `answer`.
+// output stand in the first `all` cells of `heap`, the lines one behind the other in `answer`.
 fn print_listing(
     program: &[u8],
     job: &[u8],
     symbols: &[u16],
     found: u16,
-    io: &[u16],
+    heap: &[u16; 65535],
     all: usize,
     word: Ending,
     lines: usize,
@@ -74,13 +73,13 @@ fn print_listing(
     from: usize,
     out: &mut [u8],
 ) -> usize
-    ensures { λ r. ⌜ (let text = listingText (symbolText (now (program .entry)) (now (job .entry)) (take (2 * found) (now (symbols .entry)))) (take all (now (io .entry))) word lines count (now (answer .entry)) in (r ≡ min (length (now (out .entry))) (length text - from)) × (now (out .exit) ≡ windowed (length (now (out .entry))) from text)) ⌝ }
+    ensures { λ r. ⌜ (let text = listingText (symbolText (now (program .entry)) (now (job .entry)) (take (2 * found) (now (symbols .entry)))) (take all (now (heap .entry))) word lines count (now (answer .entry)) in (r ≡ min (length (now (out .entry))) (length text - from)) × (now (out .exit) ≡ windowed (length (now (out .entry))) from text)) ⌝ }
 {
     let table = front(symbols, 2 * (found as usize));
     sink::clear(out);
     let start = sink::opened(from);
     let p = put_first(out, start, word, lines, count);
-    let job_cells = front(io, all);
+    let job_cells = front(heap, all);
     let q = put_lines(out, p, program, job, table, job_cells, lines, answer);
     sink::written(q)
 }
@@ -91,9 +90,9 @@ struct Terms {
     cells: usize,
 }
 
-// The job's inputs and output, laid out in io again; q is spare. Nothing of texts that are refused.
-fn job_terms(both: Both, jmarks: &[u16], jnums: &[u16], io: &mut [u16], q: &mut [u16]) -> Terms
-    ensures { λ r. ⌜ (let w = jobTerms both (now (jmarks .entry)) (now (jnums .entry)) (now (io .entry)) (now (q .entry)) in (r ≡ w .terms) × (now (io .exit) ≡ w .io)) ⌝ }
+// The job's inputs and output, laid out in the heap again. Nothing of texts that are refused.
+fn job_terms(both: Both, jmarks: &[u16], jnums: &[u16], heap: &mut [u16; 65535]) -> Terms
+    ensures { λ r. ⌜ termsLeft r (now (heap .exit)) ≡ jobTerms both (now (jmarks .entry)) (now (jnums .entry)) (now (heap .entry)) ⌝ }
 {
     match both {
         Both::Accepted {
@@ -102,7 +101,7 @@ fn job_terms(both: Both, jmarks: &[u16], jnums: &[u16], io: &mut [u16], q: &mut 
             parts,
             numerals: _,
         } => {
-            let laid = lay_job(jmarks, jnums, parts, io, q, intersection::NODES);
+            let laid = lay_job(jmarks, jnums, parts, heap, false);
             match laid {
                 Laid::Done(sizes) => Terms {
                     symbols: symbols,
@@ -156,8 +155,7 @@ fn print_named(
     let mut jnums: [u16; 4097] = [0; 4097];
     let mut symbols: [u16; 2048] = [0; 2048];
     let mut work: [u16; 8194] = [0; 8194];
-    let mut io: [u16; 4096] = [0; 4096];
-    let mut q: [u16; 4096] = [0; 4096];
+    let mut heap: [u16; 65535] = [0; 65535];
     let both = read_both(
         false,
         program,
@@ -171,13 +169,13 @@ fn print_named(
         &mut symbols,
         &mut work,
     );
-    let terms = job_terms(both, &jmarks, &jnums, &mut io, &mut q);
+    let terms = job_terms(both, &jmarks, &jnums, &mut heap);
     print_listing(
         program,
         job,
         &symbols,
         terms.symbols,
-        &io,
+        &heap,
         terms.cells,
         word,
         lines,

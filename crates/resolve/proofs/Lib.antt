@@ -1,5 +1,5 @@
-pub mod EngineStart
-pub mod ProgramHeld
-pub mod RunMeaning
+pub mod StartSound
+pub mod BeginPlace
 pub mod ListMeaning
 pub mod ListDemand
+pub mod RunMeaning

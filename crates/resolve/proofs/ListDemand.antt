@@ -14,9 +14,9 @@ use Rattle.semantics.specs.Answer.{Listed, list}
 use Rattle.semantics.specs.Demand3.{Unstopped}
 use Rattle.semantics.proofs.AcceptedTexts.{list-answer, listed-correct}
 use Rattle.texts.specs.ReadCells.{zeros}
-use Rattle.lines.specs.LineCells.{linesCells}
-use Rattle.lines.specs.LineReading.{readLines}
-use Rattle.lines.proofs.ReadingLaws.{lines-read}
+use Rattle.ends.specs.LineCells.{linesCells}
+use Rattle.ends.specs.LineReading.{readLines}
+use Rattle.ends.proofs.ReadingLaws.{lines-read}
 use Rattle.resolve.specs.ListAnswer.{ListLeft, worded, answerOf, linesThen, cellsAfter, tooShort, unlessShort, listLeft, linesIn}
 use Rattle.resolve.specs.ListCells.{ListOut, listTexts}
 use Rattle.resolve.specs.ListDemand.{Ended, StoredListing}
@@ -98,8 +98,8 @@ module _ (program job work d : List ℕ) where
   unfolding listLeft
   short-answer l m = rw (le-ltb (length work) 8194 l, lt-ltb (length d) 17408 m) (refl, refl, refl)
 
-  pub list-said : 8194 ≤ length work → 17408 ≤ length d → {r : Answer} {x a : List ℕ} → ListOut r x a (listTexts program job work d) → LeftAs program job work d r x a
+  pub list-said : 8194 ≤ length work → 17408 ≤ length d → {r : Answer} {x a : List ℕ} → ListOut r x a (listTexts program job work d) → length a ≡ length d → LeftAs program job work d r x a
   unfolding listLeft
-  list-said l m o =
-      let e = texts-left program job work d l m in
+  list-said l m o n =
+      let e = texts-left program job work d l m (ap length (inv (o .2)) ∙ n) in
       rw (le-ltb (length work) 8194 l, le-ltb (length d) 17408 m) (o .0 ∙ ap (λ w. w .answer) e, o .1 ∙ ap (λ w. w .work) e, o .2 ∙ ap (λ w. w .cells) e)

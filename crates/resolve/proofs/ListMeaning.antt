@@ -1,21 +1,21 @@
 -- `list`: what it answers and leaves over two texts is what its definition says.
-use Prim.Native.Nat.{ℕ, _-_, _≤_, _<_}
-use mathlib.Core.Path.{_≡_, refl, ap, subst, _∙_}
+use Prim.Native.Nat.{ℕ, zero, suc, _-_, _≤_, _<_}
+use mathlib.Core.Path.{_≡_, refl, ap, subst, _∙_, sym as inv}
 use mathlib.Core.Bool.{Bool, true, false, cond}
 use mathlib.Core.List.{List, [], _++_}
 use mathlib.Core.Option.{Option, none, some}
+use mathlib.Core.Logic.{inl, inr}
 use native.Mathlib.Omega.{arith}
-use native.Mathlib.Decide.{decLe}
+use lib.Dec.{eqb}
 use lib.ListN.{length, replicate, length-append}
+use borrow.Author.Tests.{eqb-true, eq-eqb, lt-ltb}
 use Rattle.language.specs.Bytes.{Refusal}
-use Rattle.language.specs.Tokens.{Text, ofProgram, ofJob, Token, symbolsOf}
-use Rattle.language.specs.Source.{SProg, SJob, functions, defs, prog, class}
+use Rattle.language.specs.Tokens.{Text, ofProgram, ofJob, symbolsOf}
+use Rattle.language.specs.Source.{SProg, SJob, prog, class}
 use Rattle.language.specs.JobCheck.{lister}
-use Rattle.language.specs.Reading.{accepted, rejected, reading}
+use Rattle.language.specs.Reading.{Reading, accepted, rejected, reading}
 use Rattle.language.proofs.Acceptance.{accepted-passed}
 use Rattle.lexer.specs.Lexed.{State}
-use Rattle.checker.specs.StoredAt.{keyAt}
-use Rattle.syntax.specs.PartEnds.{partEnds}
 use Rattle.syntax.specs.declared.job_ends.JobEnds.{JobEnds}
 use Rattle.syntax.specs.declared.numerals.Numerals.{Numerals}
 use Rattle.texts.specs.ReadCells.{zeros}
@@ -23,37 +23,30 @@ use Rattle.syntax.proofs.ProgramRead.{ProgramStored}
 use Rattle.syntax.proofs.JobRead.{JobStored}
 use Rattle.semantics.specs.Configuration.{Configuration, nodesState, start}
 use Rattle.semantics.specs.Tree.{root}
-use Rattle.semantics.specs.Walk.{stop21, stop22, stop23, Walked, going, stopped, walkFrom, atStart, resolve, whole, cut, wordOf, linesOf, countOf}
-use Rattle.semantics.specs.Backtrack.{Turn, walkBackFrom, resolveBack, walkedOf, SameFindings}
+use Rattle.semantics.specs.Walk.{Limits, stop21, stop22, stop23, Walked, going, stopped, walkFrom, atStart, resolve, whole, cut, wordOf, linesOf, countOf}
+use Rattle.semantics.specs.Backtrack.{onPath, halted, walkBack, walkBackFrom, resolveBack, walkedOf, SameFindings}
 use Rattle.semantics.specs.Answer as meaning
 use Rattle.semantics.specs.Answer.{Listed, limits, answerOf as meaningOf, list}
 use Rattle.semantics.proofs.Backtracking.{back-findings}
-use Rattle.semantics.proofs.Reaching.{here}
-use Rattle.semantics.proofs.Soundness.{accepted-sound}
-use Rattle.semantics.proofs.MainCall.{accepted-main, accepted-defines}
-use Rattle.configurations.specs.ContractCells.{stores}
-use Rattle.starts.specs.StartCells.{StartAnswer, started, configured}
-use Rattle.starts.specs.declared.start.Begun.{Begun}
-use Rattle.starts.specs.declared.start.Started.{Started}
-use Rattle.starts.specs.declared.start.Started.the-variants.{On, None}
-use Rattle.transitions.proofs.EngineLaws.{HoldsConfiguration}
-use Rattle.resolve.proofs.EngineStart.{start-holds}
-use Rattle.starts.proofs.StartLaws.{StartsAs}
-use Rattle.starts.proofs.StartLengths.{start-kept}
-use Rattle.starts.proofs.StartTexts.{accepted-start}
-use Rattle.lines.specs.LineCells.{linesCells, answerRoom}
-use Rattle.expansion.specs.PlanCells.{walked, nothingFound}
-use Rattle.backtracking.specs.AheadCells.{WalkStores}
-use Rattle.walker.specs.WalkCells.{WalkedAnswer, walkedAnswer, WalkedOut, walkedStart}
-use Rattle.walker.specs.JobCells.{firstStores, walkBegun, onStarted, walkJob}
-use Rattle.expansion.specs.declared.found.Ending.the-variants.{Over}
-use Rattle.expansion.specs.declared.found.Walked.{Walked as Came}
-use Rattle.lines.proofs.LineLaws.{LinesHeld, no-lines}
-use Rattle.lines.proofs.LineLaws as lines
-use Rattle.walker.proofs.SuccessorLaws.{WalkRoom}
-use Rattle.walker.proofs.WalkLaws.{Leaves, found-leaves, start-over}
-use Rattle.walker.proofs.WalkLengths.{walk-length}
-use Rattle.walker.proofs.WalkStart.{from-large, from-means}
+use Rattle.semantics.proofs.MainCall.{accepted-main}
+use Rattle.language.specs.Program.{Prog}
+use Rattle.linking.specs.Linking.{programLinked}
+use Rattle.linking.specs.Linked.{ProgramLinked}
+use Rattle.linking.proofs.ProgramLaws.{bodiesOf}
+use Rattle.linking.proofs.Accepted.{accepted-linked}
+use Rattle.initial.specs.Beginning.{mainBody, BegunLeft, begunAt}
+use Rattle.initial.specs.declared.begin.Begun.{Begun}
+use Rattle.initial.specs.declared.begin.Begun.the-variants.{Over as BegunOver}
+use Rattle.initial.proofs.BeginLaws.{inMain, Begins, BeginsAs, start-main}
+use Rattle.initial.proofs.BeginTexts.{params-few, accepted-begins}
+use Rattle.tracing.proofs.ShowLaws.{Accepted}
+use Rattle.ends.specs.LineCells.{linesCells, answerRoom}
+use Rattle.ends.proofs.LineLaws.{LinesHeld, no-lines}
+use Rattle.ends.proofs.LineLaws as lines
+use Rattle.walk.specs.Finding.{nothingFound}
+use Rattle.walk.specs.Jobs.{JobLeft, jobLeft, onBegun, walkJob}
+use Rattle.walk.specs.declared.found.Walked.{Walked as Came}
+use Rattle.walk.proofs.JobLaws.{Leaves, begun-means}
 use Rattle.texts.specs.BothCells.{BothAnswer, bothOver}
 use Rattle.resolve.specs.ListAnswer.{ListLeft, worded, answerOf, linesThen, cellsAfter}
 use Rattle.resolve.specs.ListCells.{cameTo, ListOut, walkLeft, listBehind, listTexts}
@@ -62,8 +55,9 @@ use Rattle.texts.specs.declared.both.Both.the-variants.{Accepted as Taken}
 use Rattle.answers.specs.declared.list.Answer.{Answer as Outcome}
 use Rattle.answers.specs.declared.list.Answer.the-variants.{Whole, Cut}
 use Rattle.texts.proofs.BothTurns.{LeftBy}
-use Rattle.texts.proofs.BothRead.{zeros-length, endsOf, tableOf, headsOf, leaving, refusedTexts, taken, both-are, texts-by-reading}
-use Rattle.resolve.proofs.ProgramHeld.{tokenOf, program-defines, program-stands, few-params, main-opens}
+use Rattle.texts.proofs.BothRead.{zeros-length, endsOf, tableOf, headsOf, partsOf, leaving, refusedTexts, taken, both-are, texts-by-reading}
+use Rattle.resolve.proofs.StartSound.{start-reaches}
+use Rattle.resolve.proofs.BeginPlace.{begun-place}
 
 abbrev leftOf : Outcome → List ℕ → List ℕ → ListLeft
 leftOf r work d = record { answer = r; work = work; cells = d }
@@ -74,15 +68,20 @@ pub list-left : (program job work d : List ℕ) {t u : Both} {marks nums ends he
 unfolding listTexts
 list-left program job work d {x = x} {b = b} {o = o} is f h = subst (λ (w : BothAnswer). ListOut o x b (listBehind d w)) (both-are {w = bothOver false program job work} is f) h
 
-pub walked-behind : (d marks nums ends heads jmarks jnums : List ℕ) (c : ℕ) (e : JobEnds) (k : Numerals) {x a b : List ℕ} {r : Came} {o : Outcome} → a ≡ zeros d →
-    WalkedOut r b (walkJob marks nums ends heads c jmarks jnums e k a) → o ≡ cameTo r → ListOut o x b (listBehind d (leaving (Taken c 0 e k) marks nums ends heads jmarks jnums [] x))
-walked-behind d marks nums ends heads jmarks jnums c e k z h g = rw (← z) (g ∙ ap cameTo (h .0), refl, h .1)
+pub walked-behind : (d marks nums ends heads jmarks jnums : List ℕ) (c : ℕ) (e : JobEnds) (k : Numerals) {x a b code : List ℕ} {body : ℕ} {r : Came} {o : Outcome} → code ≡ programLinked marks nums ends heads c (replicate 16388 0) → body ≡ mainBody marks heads → a ≡ zeros d →
+    jobLeft r b ≡ walkJob code body jmarks jnums e k a → o ≡ cameTo r → ListOut o x b (listBehind d (leaving (Taken c 0 e k) marks nums ends heads jmarks jnums [] x))
+walked-behind d marks nums ends heads jmarks jnums c e k {a = a} {code = code} {body = body} l m z h g =
+    let v =
+    h ∙ ap (λ (s : List ℕ). walkJob s body jmarks jnums e k a) l ∙ ap (λ (i : ℕ). walkJob (programLinked marks nums ends heads c (replicate 16388 0)) i jmarks jnums e k a) m
+    ∙ ap (walkJob (programLinked marks nums ends heads c (replicate 16388 0)) (mainBody marks heads) jmarks jnums e k) z
+    in
+    (g ∙ ap (λ (w : JobLeft). cameTo (w .walked)) v, refl, ap (λ (w : JobLeft). w .answer) v)
 
 -- the answer by its definition, over an answer storage as long as d
 abbrev saidOf : List ℕ → List ℕ → Walked → ListLeft
 saidOf x d w = leftOf (worded (wordOf w) (length (linesOf w)) (countOf w)) x (linesThen (linesOf w) d)
 
-leaves-word : (w : Walked) (v : WalkedAnswer) → Leaves w v → cameTo (v .walked) ≡ worded (wordOf w) (length (linesOf w)) (countOf w)
+leaves-word : (w : Walked) (v : JobLeft) → Leaves w v → cameTo (v .walked) ≡ worded (wordOf w) (length (linesOf w)) (countOf w)
 leaves-word (going r) v h = rw (h .ending, h .cut, h .count, h .lines .count) (pick (r .cut))
   where
     pick : (b : Bool) → cond b (Cut (length (r .lines)) (r .count)) (Whole (length (r .lines)) (r .count)) ≡ worded (cond b cut whole) (length (r .lines)) (r .count)
@@ -92,132 +91,104 @@ leaves-word (stopped stop21 r) v h = rw (h .ending, h .count, h .lines .count) r
 leaves-word (stopped stop22 r) v h = rw (h .ending, h .count, h .lines .count) refl
 leaves-word (stopped stop23 r) v h = rw (h .ending, h .count, h .lines .count) refl
 
-leaves-cells : (w : Walked) (v : WalkedAnswer) (d : List ℕ) → Leaves w v → length (v .answer) ≡ length d → v .answer ≡ linesThen (linesOf w) d
+leaves-cells : (w : Walked) (v : JobLeft) (d : List ℕ) → Leaves w v → length (v .answer) ≡ length d → v .answer ≡ linesThen (linesOf w) d
 leaves-cells w v d h l =
     let c = linesCells (linesOf w) in
     let n : h .lines .spare ≡ length d - length c = omega (arith, l, ap length (h .lines .stored), length-append c (lines.zeros (h .lines .spare)), zeros-length (h .lines .spare)) in
     h .lines .stored ∙ ap (λ (k : ℕ). c ++ replicate k 0) n
 
-leaves-said : (w : Walked) (v : WalkedAnswer) (x d : List ℕ) → Leaves w v → length (v .answer) ≡ length d → walkLeft x v ≡ saidOf x d w
+leaves-said : (w : Walked) (v : JobLeft) (x d : List ℕ) → Leaves w v → length (v .answer) ≡ length d → walkLeft x v ≡ saidOf x d w
 leaves-said w v x d h l =
     ap (λ (r : Outcome). leftOf r x (v .answer)) (leaves-word w v h) ∙ ap (leftOf (worded (wordOf w) (length (linesOf w)) (countOf w)) x) (leaves-cells w v d h l)
 
 same-said : (x d : List ℕ) (v w : Walked) → SameFindings v w → saidOf x d v ≡ saidOf x d w
 same-said x d v w f = rw (f .word, f .lines, f .count) refl
 
+-- "21 .. at the start"
+start-over : (p : Prog) (lim : Limits) (n : ℕ) (K : Configuration) → 4096 < nodesState (K .cr) → walkBackFrom p lim n (some K) ≡ halted stop21 (onPath [] atStart)
+unfolding walkBack
+start-over p lim n K l = rw (lt-ltb 4096 (nodesState (K .cr)) l) (go (lim .walk))
+  where
+    go : (v : ℕ) → walkBack p lim n (root K) v (halted stop21 (onPath [] atStart)) ≡ halted stop21 (onPath [] atStart)
+    go zero = refl
+    go (suc v) = refl
+
 -- Two texts that were accepted, their tokens in storage.
 module _ (program job : List ℕ) (p : SProg) (j : SJob) (e : reading lister program job ≡ accepted p j)
     (s : State) (h : ProgramStored program s p) (u : State) (g : JobStored program job (symbolsOf [] program) u j) (room : s .i ≤ length (s .ats)) where
-  abbrev tok : ℕ → Token
-  tok = tokenOf s
-
-  abbrev ends : List ℕ
-  ends = endsOf s
-
-  abbrev heads : List ℕ
-  heads = headsOf s
-
-  abbrev count : ℕ
-  count = tableOf s .count
-
   abbrev N : ℕ
   N = j .steps .num
 
-  -- the start over zeroed storages
-  abbrev begun : StartAnswer
-  begun = started (s .marks) (s .nums) (u .marks) (u .nums) (partEnds (keyAt (u .marks) (u .i)) (u .i)) 4096 (replicate 4096 0) (replicate 4096 0) (replicate 8192 0) (replicate 8196 0) (replicate 8196 0)
+  abbrev numerals : Numerals
+  numerals = record { steps = j .steps .num; walk = j .walk .num; table = j .table .num }
 
-  begins : StartsAs (start (prog p) (class j)) begun
-  begins =
-      accepted-start lister program job p j e s h u g 4096 (omega arith) (omega arith) (replicate 4096 0) (replicate 4096 0) (replicate 8192 0) (replicate 8196 0) (replicate 8196 0)
-      (omega (arith, zeros-length 4096)) (omega (arith, zeros-length 4096)) (omega (arith, zeros-length 8192)) (omega (arith, zeros-length 8196)) (omega (arith, zeros-length 8196))
+  abbrev bodies : ℕ → ℕ
+  bodies = bodiesOf (s .marks) (headsOf s)
+
+  abbrev code : List ℕ
+  code = programLinked (s .marks) (s .nums) (endsOf s) (headsOf s) (tableOf s .count) (replicate 16388 0)
+
+  linked : ProgramLinked (prog p) bodies code
+  linked = accepted-linked program s p h (s .ats) (replicate 64 0) room (omega (arith, zeros-length 64)) (replicate 16388 0) (zeros-length 16388)
+
+  ok : Accepted (prog p) bodies code
+  ok = record { linked = linked; formed = accepted-passed lister program job p j e .wellFormed; few = params-few program s p h }
+
+  -- main's body over zeroed storages
+  abbrev begun : BegunLeft
+  begun = begunAt (mainBody (s .marks) (headsOf s)) (u .marks) (u .nums) (partsOf u) false (replicate 65535 0) (replicate 12360 0) (replicate 4096 0)
+
+  begins : BeginsAs (prog p) bodies code (start (prog p) (class j)) begun
+  begins = accepted-begins lister program job p j e u g bodies code linked (replicate 65535 0) (replicate 12360 0) (replicate 4096 0) (zeros-length 65535) (zeros-length 12360) (zeros-length 4096)
 
   module _ (d : List ℕ) (long : answerRoom ≤ length d) where
-    abbrev storages : WalkStores
-    storages = firstStores (begun .io) (begun .q) (begun .ev) (begun .et) (begun .av) (zeros d)
-
-    abbrev walksFrom : Begun → WalkedAnswer
-    walksFrom b = walkedStart (s .marks) (s .nums) ends heads count storages (configured b) N (j .walk .num) (j .table .num)
-
-    rooms : WalkRoom (storages .working .stores) (storages .working .av2) (storages .working .val)
-    rooms =
-        let k = start-kept (s .marks) (s .nums) (u .marks) (u .nums) (partEnds (keyAt (u .marks) (u .i)) (u .i)) 4096 (replicate 8192 0) (replicate 8196 0) (replicate 8196 0) (replicate 4096 0) (replicate 4096 0) in
-        let x = zeros-length 4096 in
-        let y = zeros-length 8192 in
-        let z = zeros-length 8196 in
-        record {
-          io = omega (arith, k .0);
-          q = omega (arith, k .1);
-          ev = omega (arith, k .2);
-          et = omega (arith, k .3);
-          av = omega (arith, k .4);
-          io2 = omega arith;
-          ev2 = omega arith;
-          et2 = omega arith;
-          av2 = omega arith;
-          val = omega arith;
-        }
+    abbrev walks : Begun → JobLeft
+    walks b = onBegun code numerals (zeros d) begun b
 
     nothing-held : LinesHeld [] 0 (zeros d) (nothingFound .lines)
     nothing-held = no-lines (length d)
 
-    -- the start K
-    module _ (K : Configuration) (f : start (prog p) (class j) ≡ some K) (b : Begun) (is : begun .answer ≡ On b) (holds : HoldsConfiguration tok (s .i) (functions (defs p)) (prog p) (storages .working .stores) (configured b) K) where
-      abbrev turned : Turn
-      turned = walkBackFrom (prog p) (limits j) N (some K)
-
-      over-leaves : 4096 < nodesState (K .cr) → Leaves (walkedOf turned) (walksFrom b)
-      over-leaves l =
-          let x = from-large (s .marks) (s .nums) ends heads count storages (configured b) K (holds .cr) l N (j .walk .num) (j .table .num) in
-          rw (start-over (prog p) (limits j) N K l, x) (found-leaves (stopped stop21 atStart) (walkedAnswer (walked Over nothingFound) (zeros d)) Over nothingFound refl refl refl refl nothing-held)
-
-      small-leaves : nodesState (K .cr) ≤ 4096 → Leaves (walkedOf turned) (walksFrom b)
-      small-leaves l =
-          let m = main-opens program p s h room in
-          let a = accepted-passed lister program job p j e in
-          let sound = accepted-sound lister program job p j e K f N l in
-          from-means tok (s .i) (functions (defs p)) (s .marks) (s .nums) ends (program-stands program p s h room) heads count (prog p) (program-defines program p s h room) (m .0) (m .1)
-          (accepted-defines lister program job p j e) (few-params program p s h room) K (accepted-main lister program job p j e K f) N (a .steps) (configured b) (limits j) (a .table)
-          (record { sound = sound [] N (root K) here; size = l }) storages (record { holds = holds; begins = λ z. refl }) (omega arith) rooms (omega (arith, zeros-length 65536)) (omega (arith, zeros-length 1000))
-          nothing-held (omega (arith, zeros-length (length d))) (a .walk) sound
-
-      -- The walk over the cells of accepted texts is that of the definitions.
-      walk-leaves : Leaves (walkedOf turned) (walksFrom b)
-      walk-leaves = by-size (decLe (nodesState (K .cr)) 4096)
-        where
-          by-size : Dec (nodesState (K .cr) ≤ 4096) → Leaves (walkedOf turned) (walksFrom b)
-          by-size (yes l) = small-leaves l
-          by-size (no l) = over-leaves (omega arith)
-
     abbrev found : Walked
     found = resolve (prog p) (class j) N (limits j)
 
-    walked-length : (b : Begun) → length (walksFrom b .answer) ≡ length d
-    walked-length b = walk-length (s .marks) (s .nums) ends heads count storages (configured b) N (j .walk .num) (j .table .num) ∙ zeros-length (length d)
+    -- the start K
+    module _ (K : Configuration) (f : start (prog p) (class j) ≡ some K) where
+      abbrev back : Walked
+      back = walkedOf (walkBackFrom (prog p) (limits j) N (some K))
+
+      over-leaves : 4097 < nodesState (K .cr) → Leaves back (walks BegunOver)
+      over-leaves l = rw (start-over (prog p) (limits j) N K (omega arith)) (record { ending = refl; cut = refl; count = refl; lines = nothing-held })
+
+      on-leaves : Begins (prog p) bodies code (inMain (prog p) K) begun → Leaves back (walks (begun .answer))
+      on-leaves b =
+          let a = accepted-passed lister program job p j e in
+          let at = begun-place b (start-main (prog p) (class j) K (a .wellFormed) (a .fits) f .1) in
+          begun-means (prog p) bodies code ok K (accepted-main lister program job p j e K f) begun b (limits j) (a .table) (a .walk) N (a .steps) numerals refl refl refl (omega arith)
+          (start-reaches lister program job p j e K f N) (zeros d) nothing-held (omega (arith, zeros-length (length d)))
+
+      -- The walk over the cells of accepted texts is that of the definitions.
+      walk-leaves : BeginsAs (prog p) bodies code (some K) begun → Leaves back (walks (begun .answer))
+      walk-leaves (inl o) = subst (λ (b : Begun). Leaves back (walks b)) (inv (o .0)) (over-leaves (o .1))
+      walk-leaves (inr b) = on-leaves b
+
+      found-back : SameFindings back found
+      unfolding resolveBack
+      found-back = subst (λ (o : Option Configuration). SameFindings (walkedOf (walkBackFrom (prog p) (limits j) N o)) found) f (back-findings (prog p) (class j) N (limits j))
 
     found-none : start (prog p) (class j) ≡ none → found ≡ walkFrom (prog p) (limits j) N none
     unfolding resolve
     found-none f = ap (walkFrom (prog p) (limits j) N) f
 
-    found-back : (K : Configuration) → start (prog p) (class j) ≡ some K → SameFindings (walkedOf (walkBackFrom (prog p) (limits j) N (some K))) found
-    unfolding resolveBack
-    found-back K f = subst (λ (o : Option Configuration). SameFindings (walkedOf (walkBackFrom (prog p) (limits j) N o)) found) f (back-findings (prog p) (class j) N (limits j))
-
     module _ (x : List ℕ) where
-      by-start : (o : Option Configuration) → start (prog p) (class j) ≡ o → walkLeft x (onStarted walksFrom (zeros d) (begun .answer)) ≡ saidOf x d found
-      by-start none f =
-          let a : begun .answer ≡ None = subst (λ (o : Option Configuration). StartsAs o begun) f begins in
+      by-start : (o : Option Configuration) → start (prog p) (class j) ≡ o → BeginsAs (prog p) bodies code o begun → length (walks (begun .answer) .answer) ≡ length d → walkLeft x (walks (begun .answer)) ≡ saidOf x d found
+      by-start none f a l =
           let n : length d - 0 ≡ length d = omega arith in
           rw (a, found-none f, n) refl
-      by-start (some K) f =
-          let w = start-holds tok (s .i) (functions (defs p)) (prog p) (class j) begun begins (replicate 4096 0) (replicate 8192 0) (replicate 8196 0) K f in
-          let v = walk-leaves K f (w .0) (w .1) (w .2) in
-          ap (λ (r : Started). walkLeft x (onStarted walksFrom (zeros d) r)) (w .1) ∙ leaves-said (walkedOf (walkBackFrom (prog p) (limits j) N (some K))) (walksFrom (w .0)) x d v (walked-length (w .0))
-          ∙ same-said x d (walkedOf (walkBackFrom (prog p) (limits j) N (some K))) found (found-back K f)
+      by-start (some K) f a l = leaves-said (back K f) (walks (begun .answer)) x d (walk-leaves K f a) l ∙ same-said x d (back K f) found (found-back K f)
 
-      pub accepted-means : listBehind d (taken s u j x) ≡ saidOf x d found
-      unfolding walkJob walkBegun
-      accepted-means = by-start (start (prog p) (class j)) refl
+      pub accepted-means : length (listBehind d (taken s u j x) .cells) ≡ length d → listBehind d (taken s u j x) ≡ saidOf x d found
+      unfolding walkJob
+      accepted-means l = by-start (start (prog p) (class j)) refl begins l
 
 -- Any two texts.
 module _ (program job work d : List ℕ) (wide : 8194 ≤ length work) (long : answerRoom ≤ length d) where
@@ -228,11 +199,28 @@ module _ (program job work d : List ℕ) (wide : 8194 ≤ length work) (long : a
   abbrev said : meaning.Answer Listed → ListLeft
   said a = leftOf (answerOf a) (zeros work) (cellsAfter a d)
 
-  refused-said : (t : Text) (r : Refusal) → reading lister program job ≡ rejected t r → (marks nums ends heads jmarks jnums symbols : List ℕ) → listBehind d (leaving (refusedTexts t r) marks nums ends heads jmarks jnums symbols (zeros work)) ≡ said (meaningOf listedBy (rejected t r))
-  refused-said ofProgram r e marks nums ends heads jmarks jnums symbols = refl
-  refused-said ofJob r e marks nums ends heads jmarks jnums symbols = refl
+  abbrev saidBy : Reading → ListLeft
+  saidBy r = said (meaningOf listedBy r)
 
-  pub texts-left : listTexts program job work d ≡ said (list program job)
+  -- what is left, where the answer storage keeps its length
+  abbrev kept : BothAnswer → ListLeft
+  kept w = cond (eqb (length (listBehind d w .cells)) (length d)) (listBehind d w) (saidBy (reading lister program job))
+
+  kept-said : (w : BothAnswer) (r : Reading) → reading lister program job ≡ r → (length (listBehind d w .cells) ≡ length d → listBehind d w ≡ saidBy r) → kept w ≡ saidBy r
+  kept-said w r e f = pick (eqb (length (listBehind d w .cells)) (length d)) refl
+    where
+      pick : (b : Bool) → eqb (length (listBehind d w .cells)) (length d) ≡ b → cond b (listBehind d w) (saidBy (reading lister program job)) ≡ saidBy r
+      pick true i = f (eqb-true _ _ i)
+      pick false i = ap saidBy e
+
+  refused-said : (t : Text) (r : Refusal) (marks nums ends heads jmarks jnums symbols : List ℕ) → listBehind d (leaving (refusedTexts t r) marks nums ends heads jmarks jnums symbols (zeros work)) ≡ saidBy (rejected t r)
+  refused-said ofProgram r marks nums ends heads jmarks jnums symbols = refl
+  refused-said ofJob r marks nums ends heads jmarks jnums symbols = refl
+
+  pub texts-left : length (listTexts program job work d .cells) ≡ length d → listTexts program job work d ≡ said (list program job)
   unfolding listTexts list
-  texts-left =
-      texts-by-reading false program job work wide (listBehind d) (λ r. said (meaningOf listedBy r)) refused-said (λ p j e s h u g room wide. accepted-means program job p j e s h u g room d long (zeros work))
+  texts-left l =
+      inv (ap (λ (b : Bool). cond b (listBehind d (bothOver false program job work)) (saidBy (reading lister program job))) (eq-eqb _ _ l))
+      ∙ texts-by-reading false program job work wide kept saidBy
+      (λ t r e marks nums ends heads jmarks jnums symbols. kept-said (leaving (refusedTexts t r) marks nums ends heads jmarks jnums symbols (zeros work)) (rejected t r) e (λ z. refused-said t r marks nums ends heads jmarks jnums symbols))
+      (λ p j e s h u g room wide. kept-said (taken s u j (zeros work)) (accepted p j) e (accepted-means program job p j e s h u g room d long (zeros work)))

@@ -3,15 +3,17 @@ use Prim.Native.Nat.{ℕ}
 use mathlib.Core.Path.{_≡_}
 use mathlib.Core.Bool.{false}
 use mathlib.Core.List.{List}
+use lib.ListN.{replicate}
 use Rattle.texts.specs.ReadCells.{zeros}
 use Rattle.syntax.specs.declared.job_ends.JobEnds.{JobEnds}
 use Rattle.syntax.specs.declared.numerals.Numerals.{Numerals}
-use Rattle.walker.specs.WalkCells.{WalkedAnswer}
-use Rattle.walker.specs.JobCells.{walkJob}
-use Rattle.expansion.specs.declared.found.Found.{Found}
-use Rattle.expansion.specs.declared.found.Ending.{Ending}
-use Rattle.expansion.specs.declared.found.Ending.the-variants.{Done, Over, Full, Spent}
-use Rattle.expansion.specs.declared.found.Walked.{Walked}
+use Rattle.linking.specs.Linking.{programLinked}
+use Rattle.initial.specs.Beginning.{mainBody}
+use Rattle.walk.specs.Jobs.{JobLeft, walkJob}
+use Rattle.walk.specs.declared.found.Found.{Found}
+use Rattle.walk.specs.declared.found.Ending.{Ending}
+use Rattle.walk.specs.declared.found.Ending.the-variants.{Done, Over, Full, Spent}
+use Rattle.walk.specs.declared.found.Walked.{Walked}
 use Rattle.resolve.specs.ListAnswer.{ListLeft}
 use Rattle.texts.specs.BothCells.{BothAnswer, bothOver}
 use Rattle.texts.specs.declared.both.Both.{Both}
@@ -32,20 +34,25 @@ cameTo w = endedAs (w .ending) (w .found)
 abbrev pub ListOut : Answer → List ℕ → List ℕ → ListLeft → Type 0
 ListOut r work d w = (r ≡ w .answer) × (work ≡ w .work) × (d ≡ w .cells)
 
-abbrev pub walkLeft : List ℕ → WalkedAnswer → ListLeft
+-- what a walk came to, by its answer
+abbrev pub walkLeft : List ℕ → JobLeft → ListLeft
 walkLeft work w = record { answer = cameTo (w .walked); work = work; cells = w .answer }
 
 -- the walk of accepted texts, whose parts stand in the storages, or a refusal
-abbrev pub afterBoth : (ℕ → JobEnds → Numerals → WalkedAnswer) → List ℕ → List ℕ → Both → ListLeft
+abbrev pub afterBoth : (ℕ → JobEnds → Numerals → JobLeft) → List ℕ → List ℕ → Both → ListLeft
 afterBoth f work d (Accepted c n e k) = walkLeft work (f c e k)
 afterBoth f work d (OfProgram number offset) = record { answer = Program number offset; work = work; cells = d }
 afterBoth f work d (OfJob number offset) = record { answer = Job number offset; work = work; cells = d }
 afterBoth f work d TooShort = record { answer = Short; work = work; cells = d }
 
+-- a program of c definitions, linked, and a job
+abbrev pub walkedTexts : List ℕ → List ℕ → List ℕ → List ℕ → List ℕ → List ℕ → List ℕ → ℕ → JobEnds → Numerals → JobLeft
+walkedTexts marks nums ends heads jmarks jnums a c e k = walkJob (programLinked marks nums ends heads c (replicate 16388 0)) (mainBody marks heads) jmarks jnums e k a
+
 abbrev pub listBehind : List ℕ → BothAnswer → ListLeft
 listBehind d w =
     let j = w .job in
-    afterBoth (λ c e k. walkJob (w .marks) (w .nums) (j .placed .ends) (j .placed .heads) c (j .jmarks) (j .jnums) e k (zeros d)) (j .work) d (j .placed .texts)
+    afterBoth (walkedTexts (w .marks) (w .nums) (j .placed .ends) (j .placed .heads) (j .jmarks) (j .jnums) (zeros d)) (j .work) d (j .placed .texts)
 
 unfoldable pub listTexts : List ℕ → List ℕ → List ℕ → List ℕ → ListLeft
 listTexts program job work d = listBehind d (bothOver false program job work)

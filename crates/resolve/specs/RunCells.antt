@@ -3,13 +3,14 @@ use Prim.Native.Nat.{ℕ}
 use mathlib.Core.Path.{_≡_}
 use mathlib.Core.Bool.{true}
 use mathlib.Core.List.{List}
+use lib.ListN.{replicate}
 use Rattle.texts.specs.ReadCells.{zeros}
 use Rattle.syntax.specs.declared.job_ends.JobEnds.{JobEnds}
 use Rattle.syntax.specs.declared.numerals.Numerals.{Numerals}
-use Rattle.runner.specs.ForwardCells.{RanAnswer}
-use Rattle.runner.specs.InputsCells.{runInputs}
-use Rattle.runner.specs.declared.forward.Ran.{Ran}
-use Rattle.runner.specs.declared.forward.Ran.the-variants.{Value as RanValue, Over as RanOver, NotWithin as RanNotWithin}
+use Rattle.linking.specs.Linking.{programLinked}
+use Rattle.forward.specs.Running.{RanAnswer, runInputs}
+use Rattle.forward.specs.declared.ran.Ran.{Ran}
+use Rattle.forward.specs.declared.ran.Ran.the-variants.{Value as RanValue, Over as RanOver, NotWithin as RanNotWithin}
 use Rattle.resolve.specs.RunAnswer.{RunLeft}
 use Rattle.texts.specs.BothCells.{BothAnswer, bothOver}
 use Rattle.texts.specs.declared.both.Both.{Both}
@@ -35,10 +36,14 @@ afterBoth f work d (OfProgram number offset) = record { answer = Program number 
 afterBoth f work d (OfJob number offset) = record { answer = Job number offset; work = work; cells = d }
 afterBoth f work d TooShort = record { answer = Short; work = work; cells = d }
 
+-- a program of c definitions, linked, and a job's inputs
+abbrev pub ranTexts : List ℕ → List ℕ → List ℕ → List ℕ → List ℕ → List ℕ → List ℕ → ℕ → JobEnds → Numerals → RanAnswer
+ranTexts marks nums ends heads jmarks jnums a c e k = runInputs marks heads jmarks jnums e (programLinked marks nums ends heads c (replicate 16388 0)) (k .steps) a
+
 abbrev pub runBehind : List ℕ → BothAnswer → RunLeft
 runBehind d w =
     let j = w .job in
-    afterBoth (λ c e k. runInputs (w .marks) (w .nums) (j .placed .ends) (j .placed .heads) c (j .jmarks) (j .jnums) e (k .steps) (zeros d)) (j .work) d (j .placed .texts)
+    afterBoth (ranTexts (w .marks) (w .nums) (j .placed .ends) (j .placed .heads) (j .jmarks) (j .jnums) (zeros d)) (j .work) d (j .placed .texts)
 
 unfoldable pub runTexts : List ℕ → List ℕ → List ℕ → List ℕ → RunLeft
 runTexts program job work d = runBehind d (bothOver true program job work)

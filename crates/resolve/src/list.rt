@@ -2,12 +2,14 @@
 // answers and leaves is defined in specs/ListAnswer.antt.
 use answers::list::Answer;
 use answers::list::unstopped;
-use expansion::found::Ending;
-use expansion::found::Walked;
+use initial::begin::main_body;
+use linking::program::link_program;
 use texts::both::Both;
 use texts::both::read_both;
 use texts::clear::clear;
-use walker::job::walk_job;
+use walk::found::Ending;
+use walk::found::Walked;
+use walk::job::walk_job;
 ghost use mathlib.Core.Path.{_≡_};
 ghost use Rattle.language.specs.Source.{SProg, SJob, prog, class};
 ghost use Rattle.language.specs.JobCheck.{lister};
@@ -49,6 +51,7 @@ fn list_texts(program: &[u8], job: &[u8], work: &mut [u16], answer: &mut [u16]) 
     let mut jmarks: [u16; 4097] = [0; 4097];
     let mut jnums: [u16; 4097] = [0; 4097];
     let mut symbols: [u16; 2048] = [0; 2048];
+    let mut code: [u16; 16388] = [0; 16388];
     let both = read_both(
         false,
         program,
@@ -72,19 +75,10 @@ fn list_texts(program: &[u8], job: &[u8], work: &mut [u16], answer: &mut [u16]) 
             parts,
             numerals,
         } => {
+            link_program(&marks, &nums, &ends, &heads, count, &mut code);
+            let body = main_body(&marks, &heads);
             clear(answer);
-            let walked = walk_job(
-                &marks,
-                &nums,
-                &ends,
-                &heads,
-                count,
-                &jmarks,
-                &jnums,
-                parts,
-                numerals,
-                answer,
-            );
+            let walked = walk_job(&code, body, &jmarks, &jnums, parts, numerals, answer);
             came_to(walked)
         }
     }

@@ -1,8 +1,9 @@
 // The forward runner over two texts (01, "Running forwards"): "The runner reads a whole job text, checks it, and uses only the inputs and
 // N." What it answers and leaves is defined in specs/RunAnswer.antt.
 use answers::run::Answer;
-use runner::forward::Ran;
-use runner::inputs::run_inputs;
+use forward::inputs::run_inputs;
+use forward::ran::Ran;
+use linking::program::link_program;
 use texts::both::Both;
 use texts::both::read_both;
 use texts::clear::clear;
@@ -36,6 +37,7 @@ fn run_texts(program: &[u8], job: &[u8], work: &mut [u16], answer: &mut [u16]) -
     let mut jmarks: [u16; 4097] = [0; 4097];
     let mut jnums: [u16; 4097] = [0; 4097];
     let mut symbols: [u16; 2048] = [0; 2048];
+    let mut code: [u16; 16388] = [0; 16388];
     let both = read_both(
         true,
         program,
@@ -59,20 +61,10 @@ fn run_texts(program: &[u8], job: &[u8], work: &mut [u16], answer: &mut [u16]) -
             parts,
             numerals,
         } => {
+            link_program(&marks, &nums, &ends, &heads, count, &mut code);
             clear(answer);
             let steps = numerals.steps;
-            let ran = run_inputs(
-                &marks,
-                &nums,
-                &ends,
-                &heads,
-                count,
-                &jmarks,
-                &jnums,
-                parts,
-                steps,
-                answer,
-            );
+            let ran = run_inputs(&marks, &heads, &jmarks, &jnums, parts, &code, steps, answer);
             answer_of(ran)
         }
     }

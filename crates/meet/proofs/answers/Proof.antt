@@ -7,10 +7,10 @@ use Rattle.meet.proofs.answers.Statement.{statement}
 use Rattle.meet.proofs.answers.Tie as tie
 
 abbrev Inv-loop : tie.InvT-loop
-Inv-loop text page₀ k₀ from₀ page k from = length page ≡ length page₀
+Inv-loop text page₀ heap₀ frame₀ k₀ from₀ page heap frame k from = length page ≡ length page₀
 
 abbrev μ-loop : tie.MeasureT-loop
-μ-loop text page₀ k₀ from₀ page k from = length text - from
+μ-loop text page₀ heap₀ frame₀ k₀ from₀ page heap frame k from = length text - from
 
 loop-holds : tie.Need-loop-holds Inv-loop μ-loop
 loop-holds c = search needs

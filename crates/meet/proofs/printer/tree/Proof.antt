@@ -7,10 +7,10 @@ use Rattle.meet.proofs.printer.tree.Statement.{statement}
 use Rattle.meet.proofs.printer.tree.Tie as tie
 
 abbrev Inv-loop : tie.InvT-loop
-Inv-loop page₀ at text names cells n waits₀ printed₀ i₀ page waits printed i = length page ≡ length page₀
+Inv-loop page₀ at text names cells waits₀ printed₀ i₀ page waits printed i = length page ≡ length page₀
 
 abbrev μ-loop : tie.MeasureT-loop
-μ-loop page₀ at text names cells n waits₀ printed₀ i₀ page waits printed i = n - i
+μ-loop page₀ at text names cells waits₀ printed₀ i₀ page waits printed i = length cells - i
 
 slice-aggregate-waits : tie.Need-slice-aggregate-waits Inv-loop μ-loop
 slice-aggregate-waits c = search needs
@@ -18,8 +18,11 @@ slice-aggregate-waits c = search needs
 loop-holds : tie.Need-loop-holds Inv-loop μ-loop
 loop-holds c = search needs
 
-cell-requires : tie.Need-cell-requires Inv-loop μ-loop
-cell-requires c κs = search needs
+mul-node : tie.Need-mul-node Inv-loop μ-loop
+mul-node c = search needs
+
+shared-slice-read-node : tie.Need-shared-slice-read-node Inv-loop μ-loop
+shared-slice-read-node c = search needs
 
 node-requires : tie.Need-node-requires Inv-loop μ-loop
 node-requires c κs = search needs
@@ -47,7 +50,8 @@ tree-spec =
     μ-loop
     slice-aggregate-waits
     loop-holds
-    cell-requires
+    mul-node
+    shared-slice-read-node
     node-requires
     add-i
     loop-less

@@ -1,10 +1,9 @@
-use mathlib.Core.Path.{refl}
 use borrow.Author.Needs.{needs}
 use Rattle.print.proofs.list.job_terms.Statement.{statement}
 use Rattle.print.proofs.list.job_terms.Tie as tie
 use Rattle.print.proofs.list.job_terms.Reads as reads
 use Rattle.print.proofs.list.job_terms.Lts as lts
-use Rattle.starts.proofs.start.lay_job.Reads as lay-job-reads
+use Rattle.initial.proofs.job.lay_job.Reads as lay-job-reads
 
 enum-known-both : tie.Need-enum-known-both
 enum-known-both c = search needs
@@ -27,32 +26,20 @@ enum-told-3 c = search needs
 enum-told-4 : tie.Need-enum-told-4
 enum-told-4 c = search needs
 
-same-length : tie.Need-same-length
-same-length c = search needs
-
-same-length-2 : tie.Need-same-length-2
-same-length-2 c = search needs
-
 returns : tie.Need-returns
-returns c = let e = c .before .before .before .before .before .before .before .lay-job .ensures in rw (c .before .before .before .before .before .before .before .before .before .before .before .both .given .1, ← (e .1), ← (e .0), c .before .laid .given .1) (refl, refl)
-
-same-length-3 : tie.Need-same-length-3
-same-length-3 c = search needs
-
-same-length-4 : tie.Need-same-length-4
-same-length-4 c = search needs
+returns c = rw (c .before .before .before .before .before .before .both .given .1, ← (c .before .before .before .lay-job .ensures), c .before .laid .given .1)
 
 returns-2 : tie.Need-returns-2
-returns-2 c = let e = c .before .before .before .before .before .before .lay-job .ensures in rw (c .before .before .before .before .before .before .before .before .before .before .both .given .1, ← (e .1), ← (e .0), c .enum-told .given .1) (refl, refl)
+returns-2 c = rw (c .before .before .before .before .before .both .given .1, ← (c .before .before .lay-job .ensures), c .enum-told .given .1)
 
 returns-3 : tie.Need-returns-3
-returns-3 c = rw (c .enum-told2 .given .1) (refl, refl)
+returns-3 c = rw (c .enum-told2 .given .1)
 
 returns-4 : tie.Need-returns-4
-returns-4 c = rw (c .enum-told3 .given .1) (refl, refl)
+returns-4 c = rw (c .enum-told3 .given .1)
 
 returns-5 : tie.Need-returns-5
-returns-5 c = rw (c .enum-told4 .given .1) (refl, refl)
+returns-5 c = rw (c .enum-told4 .given .1)
 
 pub job-terms-spec : {M : Type 1} → statement M
 job-terms-spec =
@@ -65,11 +52,7 @@ job-terms-spec =
     enum-told-2
     enum-told-3
     enum-told-4
-    same-length
-    same-length-2
     returns
-    same-length-3
-    same-length-4
     returns-2
     returns-3
     returns-4

@@ -11,8 +11,8 @@ use Rattle.print.proofs.list.print_listing.Statement.{statement}
 use Rattle.print.proofs.list.print_listing.Tie as tie
 use Rattle.print.proofs.list.print_listing.Reads as reads
 use Rattle.print.proofs.list.print_listing.Lts as lts
-use Rattle.writer.proofs.line.put_lines.Reads as put-lines-reads
 use Rattle.print.proofs.list.put_first.Reads as put-first-reads
+use Rattle.writer.proofs.line.put_lines.Reads as put-lines-reads
 use Rattle.writer.proofs.parts.front.Reads as front-reads
 use Rattle.writer.proofs.sink.clear.Reads as clear-reads
 use Rattle.writer.proofs.sink.opened.Reads as opened-reads
@@ -49,8 +49,8 @@ returns : tie.Need-returns
 unfolding listingText
 returns c =
     let a = c .before .before .before .before .before .before .before .before .before .before .before .before .before .before .before .before .before .before .before .before .before .before .args in
-    let text = ap₂ (λ (t v : List ℕ). linesText (symbolText (a .program .now) (a .job .now) t) v (a .lines) 0 (a .answer .now)) (c .before .before .before .before .before .before .before .before .before .before .before .before .before .before .before .front .ensures) (c .before .before .before .before .before .front2 .ensures) in
-    printed _ _ _ _ _ _ _ _ (c .before .before .before .before .before .before .before .before .before .before .opened .ensures) (c .before .before .before .before .before .before .before .before .before .before .before .before .before .clear .ensures) (behind _ _ _ (c .before .before .before .before .before .before .before .before .put-first .ensures) ((c .before .before .before .put-lines .ensures) ∙ ap (puts _) text)) (c .written .ensures)
+    let text = ap₂ (λ (t v : List ℕ). linesText (symbolText (a .program .now) (a .job .now) t) v (a .lines) 0 (a .answer .now)) (c .before .before .before .before .before .before .before .before .before .before .before .before .before .before .before .before .front .ensures) (c .before .before .before .before .before .front2 .ensures) in
+    printed _ _ _ _ _ _ _ _ (c .before .before .before .before .before .before .before .before .before .before .before .opened .ensures) (c .before .before .before .before .before .before .before .before .before .before .before .before .before .before .clear .ensures) (behind _ _ _ (c .before .before .before .before .before .before .before .before .before .put-first .ensures) ((c .before .before .before .put-lines .ensures) ∙ ap (puts _) text)) (c .written .ensures)
 
 pub print-listing-spec : {M : Type 1} → statement M
 print-listing-spec =

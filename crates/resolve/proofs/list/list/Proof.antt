@@ -22,7 +22,7 @@ same-length-2 : tie.Need-same-length-2
 same-length-2 c = search needs
 
 returns-3 : tie.Need-returns-3
-returns-3 c = let a = c .before .before .before .before .before .before .before .before .before .before .before .before .before .args in promised (a .program .now) (a .job .now) (a .work .now) (a .answer .now) (list-said (a .program .now) (a .job .now) (a .work .now) (a .answer .now) (c .before .before .before .before .before .before .before .before .if1 .left) (c .before .before .before .before .before .before .before .if2 .left) (c .before .before .before .before .list-texts .ensures))
+returns-3 c = let a = c .before .before .before .before .before .before .before .before .before .before .before .before .before .args in promised (a .program .now) (a .job .now) (a .work .now) (a .answer .now) (list-said (a .program .now) (a .job .now) (a .work .now) (a .answer .now) (c .before .before .before .before .before .before .before .before .if1 .left) (c .before .before .before .before .before .before .before .if2 .left) (c .before .before .before .before .list-texts .ensures) (c .before .answer .given))
 
 pub list-spec : {M : Type 1} → statement M
 list-spec =

@@ -5,8 +5,9 @@ use Rattle.resolve.proofs.run.run_texts.Statement.{statement}
 use Rattle.resolve.proofs.run.run_texts.Tie as tie
 use Rattle.resolve.proofs.run.run_texts.Reads as reads
 use Rattle.resolve.proofs.run.run_texts.Lts as lts
+use Rattle.forward.proofs.inputs.run_inputs.Reads as run-inputs-reads
+use Rattle.linking.proofs.program.link_program.Reads as link-program-reads
 use Rattle.resolve.proofs.run.answer_of.Reads as answer-of-reads
-use Rattle.runner.proofs.inputs.run_inputs.Reads as run-inputs-reads
 use Rattle.texts.proofs.both.read_both.Reads as read-both-reads
 use Rattle.texts.proofs.clear.clear.Reads as clear-reads
 
@@ -46,6 +47,18 @@ enum-told c = search needs
 enum-known-both-3 : tie.Need-enum-known-both-3
 enum-known-both-3 c = search needs
 
+slice-aggregate-link-program : tie.Need-slice-aggregate-link-program
+slice-aggregate-link-program c = search needs
+
+slice-aggregate-link-program-2 : tie.Need-slice-aggregate-link-program-2
+slice-aggregate-link-program-2 c = search needs
+
+slice-aggregate-link-program-3 : tie.Need-slice-aggregate-link-program-3
+slice-aggregate-link-program-3 c = search needs
+
+link-program-requires : tie.Need-link-program-requires
+link-program-requires c κs = search needs
+
 clear-requires : tie.Need-clear-requires
 clear-requires c κs = search needs
 
@@ -57,15 +70,6 @@ slice-aggregate-run-inputs-2 c = search needs
 
 slice-aggregate-run-inputs-3 : tie.Need-slice-aggregate-run-inputs-3
 slice-aggregate-run-inputs-3 c = search needs
-
-slice-aggregate-run-inputs-4 : tie.Need-slice-aggregate-run-inputs-4
-slice-aggregate-run-inputs-4 c = search needs
-
-slice-aggregate-run-inputs-5 : tie.Need-slice-aggregate-run-inputs-5
-slice-aggregate-run-inputs-5 c = search needs
-
-slice-aggregate-run-inputs-6 : tie.Need-slice-aggregate-run-inputs-6
-slice-aggregate-run-inputs-6 c = search needs
 
 run-inputs-requires : tie.Need-run-inputs-requires
 run-inputs-requires c κs = search needs
@@ -92,13 +96,13 @@ returns-3 : tie.Need-returns-3
 returns-3 c = let a = c .before .before .before .before .before .before .before .before .before .before .before .before .before .before .before .before .before .before .before .before .before .before .before .before .args in run-left (a .program .now) (a .job .now) (a .work .now) (a .answer .now) (c .before .before .before .before .before .before .before .before .before .before .before .read-both .ensures) (c .enum-told .given .1) (refl, refl, refl)
 
 same-length-4 : tie.Need-same-length-4
-same-length-4 c = search needs
+same-length-4 c = c .before .before .before .before .before .before .before .before .before .before .before .before .before .before .before .before .before .before .before .before .before .before .before .before .work .given
 
 same-length-5 : tie.Need-same-length-5
 same-length-5 c = search needs
 
 returns-4 : tie.Need-returns-4
-returns-4 c = let a = c .before .before .before .before .before .before .before .before .before .before .before .before .before .before .before .before .before .before .before .before .before .before .before .before .before .before .before .before .before .before .before .before .before .before .before .before .before .before .before .before .args in run-left (a .program .now) (a .job .now) (a .work .now) (a .answer .now) (c .before .before .before .before .before .before .before .before .before .before .before .before .before .before .before .before .before .before .before .before .before .before .before .before .before .before .before .read-both .ensures) (c .before .before .before .before .before .before .before .before .before .before .before .before .before .before .before .before .both3 .given .1) (ran-behind (a .answer .now) _ _ _ _ _ _ _ _ _ (c .before .before .before .before .before .before .before .before .before .before .before .before .before .clear .ensures) (c .before .before .before .run-inputs .ensures) (c .answer-of .ensures))
+returns-4 c = let a = c .before .before .before .before .before .before .before .before .before .before .before .before .before .before .before .before .before .before .before .before .before .before .before .before .before .before .before .before .before .before .before .before .before .before .before .before .before .before .before .before .before .before .before .before .before .args in run-left (a .program .now) (a .job .now) (a .work .now) (a .answer .now) (c .before .before .before .before .before .before .before .before .before .before .before .before .before .before .before .before .before .before .before .before .before .before .before .before .before .before .before .before .before .before .before .before .read-both .ensures) (c .before .before .before .before .before .before .before .before .before .before .before .before .before .before .before .before .before .before .before .before .before .both3 .given .1) (ran-behind (a .answer .now) _ _ _ _ _ _ _ _ _ (c .before .before .before .before .before .before .before .before .before .before .before .before .before .before .link-program .ensures) (c .before .before .before .before .before .before .before .before .before .before .before .before .clear .ensures) (c .before .before .before .run-inputs .ensures) (c .answer-of .ensures))
 
 pub run-texts-spec : {M : Type 1} → statement M
 run-texts-spec =
@@ -116,13 +120,14 @@ run-texts-spec =
     enum-known-both-2
     enum-told
     enum-known-both-3
+    slice-aggregate-link-program
+    slice-aggregate-link-program-2
+    slice-aggregate-link-program-3
+    link-program-requires
     clear-requires
     slice-aggregate-run-inputs
     slice-aggregate-run-inputs-2
     slice-aggregate-run-inputs-3
-    slice-aggregate-run-inputs-4
-    slice-aggregate-run-inputs-5
-    slice-aggregate-run-inputs-6
     run-inputs-requires
     answer-of-requires
     same-length

@@ -1,0 +1,4 @@
+pub mod BindingLaws
+pub mod BranchLaws
+pub mod AtomLaws
+pub mod TakeLaws

@@ -1,4 +1,0 @@
-pub mod ConfigurationCells
-pub mod ContractCells
-pub mod LookCells
-pub mod OutputCells

@@ -1,0 +1,4 @@
+pub mod LineCells
+pub mod LineReading
+pub mod Lines
+pub mod Ends

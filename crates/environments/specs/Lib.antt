@@ -1,6 +1,0 @@
-pub mod Storing
-pub mod EnvironmentCells
-pub mod ValueCells
-pub mod ArgumentCells
-pub mod ContractionCells
-pub mod LateCells

@@ -1,0 +1,10 @@
+pub mod ForwardTurns
+pub mod PutLaws
+pub mod OutputLaws
+pub mod SourceLaws
+pub mod WayLaws
+pub mod LandingLaws
+pub mod FinishLaws
+pub mod TurnLaws
+pub mod RunMeans
+pub mod AcceptedRuns

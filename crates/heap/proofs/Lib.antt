@@ -1,0 +1,8 @@
+pub mod RunLaws
+pub mod ContractLaws
+pub mod HeapLaws
+pub mod FrameLaws
+pub mod PairLaws
+pub mod NodeLaws
+pub mod PartLaws
+pub mod CompactLaws

@@ -1,0 +1,75 @@
+-- The parts of a pair that a range holds are ranges.
+use Prim.Native.Nat.{ℕ, zero, suc, _+_, _-_, _*_, _≤_, _<_, min}
+use mathlib.Core.Path.{_≡_, refl, ap, ap₂, _∙_, sym as inv}
+use mathlib.Core.List.{List, [], _∷_, _++_, append-assoc}
+use native.Mathlib.Omega.{arith}
+use native.Mathlib.Numerals.{add-one}
+use lib.ListN.{length, take, drop, getD, length-append}
+use lib.Seq.{drop-cons, take-at, drop-at}
+use Rattle.expressions.specs.Expression.{Exp, pair, nodes}
+use Rattle.sets.specs.Cells.{cells, treeEnd}
+use Rattle.sets.proofs.CellLaws.{Stands, stands-end, cells-nodes}
+use Rattle.heap.specs.Runs.{cellsAt, run}
+use Rattle.heap.proofs.RunLaws.{run-cons, length-cellsAt}
+use Rattle.heap.proofs.HeapLaws.{Holds}
+
+-- a run is a part of the list
+run-drop : (n i : ℕ) (h : List ℕ) → i + n ≤ length h → drop i h ≡ cellsAt n i h ++ drop (i + n) h
+unfolding cellsAt
+run-drop zero i h l = let e : i + 0 ≡ i = omega arith in rw e
+run-drop (suc n) i h l =
+    let e : i + suc n ≡ i + 1 + n = omega arith in
+    let r : drop (i + 1) h ≡ cellsAt n (i + 1) h ++ drop (i + 1 + n) h = run-drop n (i + 1) h (omega arith) in
+    drop-cons h i 0 (omega arith) ∙ ap (λ (k : List ℕ). getD h i 0 ∷ k) (ap (λ (k : ℕ). drop k h) (inv (add-one i)) ∙ r ∙ ap (λ (k : ℕ). cellsAt n (i + 1) h ++ drop k h) (inv e))
+
+cells-split : (m n i : ℕ) (h : List ℕ) → cellsAt (m + n) i h ≡ cellsAt m i h ++ cellsAt n (i + m) h
+unfolding cellsAt
+cells-split zero n i h = let e : i + 0 ≡ i = omega arith in let z : 0 + n ≡ n = omega arith in rw (e, z)
+cells-split (suc m) n i h =
+    let e : i + suc m ≡ i + 1 + m = omega arith in
+    let s : suc m + n ≡ suc (m + n) = omega arith in
+    rw (s, e) (ap (λ (k : List ℕ). getD h i 0 ∷ k) (cells-split m n (i + 1) h))
+
+tails : {a b : ℕ} {r s : List ℕ} → a ∷ r ≡ b ∷ s → r ≡ s
+tails e = cc
+
+module _ {h : List ℕ} {used from to : ℕ} {c d : Exp} (held : Holds h used from to (pair c d)) where
+  size-of : to - from ≡ suc (nodes c + nodes d)
+  size-of = inv (length-cellsAt (to - from) from h) ∙ ap length (held .is) ∙ cells-nodes (pair c d)
+
+  both : run (from + 1) to h ≡ cells c ++ cells d
+  both = tails (inv (run-cons from to h (omega (arith, size-of))) ∙ held .is)
+
+  split : cellsAt (nodes c) (from + 1) h ++ cellsAt (nodes d) (from + 1 + nodes c) h ≡ cells c ++ cells d
+  split =
+      let n : to - (from + 1) ≡ nodes c + nodes d = omega (arith, size-of) in
+      inv (cells-split (nodes c) (nodes d) (from + 1) h) ∙ ap (λ (k : ℕ). cellsAt k (from + 1) h) (inv n) ∙ both
+
+  pub head-holds : Holds h used (from + 1) (from + 1 + nodes c) c
+  head-holds =
+      let n : from + 1 + nodes c - (from + 1) ≡ nodes c = omega arith in
+      let l = length-cellsAt (nodes c) (from + 1) h in
+      record {
+        below = omega (arith, size-of, held .below);
+        is =
+            ap (λ (k : ℕ). cellsAt k (from + 1) h) n ∙ inv (take-at (cellsAt (nodes c) (from + 1) h) (cellsAt (nodes d) (from + 1 + nodes c) h) (nodes c) l)
+            ∙ ap (take (nodes c)) split ∙ take-at (cells c) (cells d) (nodes c) (cells-nodes c);
+      }
+
+  pub tail-holds : Holds h used (from + 1 + nodes c) to d
+  tail-holds =
+      let n : to - (from + 1 + nodes c) ≡ nodes d = omega (arith, size-of) in
+      let l = length-cellsAt (nodes c) (from + 1) h in
+      record {
+        below = held .below;
+        is =
+            ap (λ (k : ℕ). cellsAt k (from + 1 + nodes c) h) n ∙ inv (drop-at (cellsAt (nodes c) (from + 1) h) (cellsAt (nodes d) (from + 1 + nodes c) h) (nodes c) l)
+            ∙ ap (drop (nodes c)) split ∙ drop-at (cells c) (cells d) (nodes c) (cells-nodes c);
+      }
+
+  pub head-end : used ≤ length h → treeEnd h (from + 1) ≡ from + 1 + nodes c
+  head-end l =
+      let e : from + 1 + (to - (from + 1)) ≡ to = omega (arith, size-of) in
+      let w : drop (from + 1) h ≡ run (from + 1) to h ++ drop to h =
+      run-drop (to - (from + 1)) (from + 1) h (omega (arith, held .below, e)) ∙ ap (λ (k : ℕ). run (from + 1) to h ++ drop k h) e in
+      stands-end {c = c} {rest = cells d ++ drop to h} (record { here = w ∙ ap (λ (k : List ℕ). k ++ drop to h) both ∙ append-assoc (cells c) (cells d) (drop to h) })

@@ -1,0 +1,5 @@
+pub mod Runs
+pub mod Entries
+pub mod Contracted
+pub mod Moving
+pub mod Compacting

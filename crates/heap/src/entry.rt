@@ -1,0 +1,110 @@
+// Entries of the frame, three cells each: key, and the range of its value.
+use sets::cell;
+ghost use mathlib.Core.Path.{_≡_};
+ghost use Prim.Native.Nat.{min, _+_, _-_, _<_, _≤_};
+ghost use Rattle.heap.specs.Entries.{entry, pushAnswer, pushed, movedDown, movedEntries, entryFrom, entryTo, nodesFrom};
+
+// The entries that the frame has room for.
+pub const ENTRIES: usize = 4120;
+
+// A place of the heap in a cell.
+pub fn narrow(x: usize) -> u16
+    ensures { λ r. ⌜ r ≡ min x 65535 ⌝ }
+{
+    let y = cell::least(x, 65535);
+    y as u16
+}
+
+// A place of the heap from a cell.
+pub fn wide(x: u16) -> usize
+    ensures { λ r. ⌜ (r ≡ x) × (r ≤ 65535) ⌝ }
+{
+    x as usize
+}
+
+// Done: the entries there are now. Full: there is no room for one more.
+pub enum Pushed {
+    Done(usize),
+    Full,
+}
+
+// The entry i.
+pub(crate) fn put_entry(frame: &mut [u16; 12360], i: usize, key: u16, from: usize, to: usize)
+    requires { ⌜ i < 4120 ⌝ }
+    ensures { λ _. ⌜ now (frame .exit) ≡ entry i key from to (now (frame .entry)) ⌝ }
+{
+    let a = narrow(from);
+    let b = narrow(to);
+    frame[3 * i] = key;
+    frame[3 * i + 1] = a;
+    frame[3 * i + 2] = b;
+}
+
+// One entry more, behind n.
+pub fn push_entry(frame: &mut [u16; 12360], n: usize, key: u16, from: usize, to: usize) -> Pushed
+    ensures { λ r. ⌜ pushAnswer r (now (frame .exit)) ≡ pushed n key from to (now (frame .entry)) ⌝ }
+{
+    if ENTRIES <= n {
+        return Pushed::Full;
+    }
+    put_entry(frame, n, key, from, to);
+    Pushed::Done(n + 1)
+}
+
+// The n entries from `from` on, moved down to `to`: a call's new entries, over the old ones.
+pub(crate) fn move_down(frame: &mut [u16; 12360], from: usize, n: usize, to: usize)
+    requires { ⌜ (to ≤ from) × (from + n ≤ 4120) ⌝ }
+    ensures { λ _. ⌜ now (frame .exit) ≡ movedDown from n to (now (frame .entry)) ⌝ }
+{
+    let a = 3 * from;
+    let b = 3 * to;
+    let size = 3 * n;
+    let mut i: usize = 0;
+    while i < size {
+        frame[b + i] = frame[a + i];
+        i += 1;
+    }
+}
+
+// The n entries from `from` on again at `to`, which lies before them; nothing where they are not all there.
+pub fn move_entries(frame: &mut [u16; 12360], from: usize, n: usize, to: usize)
+    ensures { λ _. ⌜ now (frame .exit) ≡ movedEntries from n to (now (frame .entry)) ⌝ }
+{
+    if from < to {
+        return;
+    }
+    if ENTRIES < from {
+        return;
+    }
+    if ENTRIES - from < n {
+        return;
+    }
+    move_down(frame, from, n, to);
+}
+
+// The nodes of the entry i.
+fn entry_nodes(frame: &[u16; 12360], i: usize) -> usize
+    requires { ⌜ i < 4120 ⌝ }
+    ensures { λ r. ⌜ (r ≡ entryTo (now (frame .entry)) i - entryFrom (now (frame .entry)) i) × (r ≤ 65535) ⌝ }
+{
+    let from = wide(frame[3 * i + 1]);
+    let to = wide(frame[3 * i + 2]);
+    if from < to {
+        return to - from;
+    }
+    0
+}
+
+// The nodes of the first n entries.
+pub fn nodes(frame: &[u16; 12360], n: usize) -> usize
+    ensures { λ r. ⌜ r ≡ nodesFrom (min n 4120) 0 (now (frame .entry)) ⌝ }
+{
+    let end = cell::least(n, ENTRIES);
+    let mut sum: usize = 0;
+    let mut i: usize = 0;
+    while i < end {
+        sum += entry_nodes(frame, i);
+        i += 1;
+    }
+    sum
+}

@@ -1,0 +1,10 @@
+pub mod InitialTurns
+pub mod DataLaws
+pub mod FreshLaws
+pub mod TreeLaws
+pub mod EnterLaws
+pub mod JobLaws
+pub mod BeginLaws
+pub mod BeginTexts
+pub mod EmbedLaws
+pub mod RunBegins

@@ -1,0 +1,5 @@
+pub mod Data
+pub mod Trees
+pub mod Fresh
+pub mod Laying
+pub mod Beginning

@@ -1,4 +1,0 @@
-pub mod LineLaws
-pub mod ReadingLaws
-pub mod EndLengths
-pub mod EndLaws

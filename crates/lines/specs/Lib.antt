@@ -1,3 +1,0 @@
-pub mod LineCells
-pub mod EndCells
-pub mod LineReading

@@ -1,0 +1,5 @@
+pub mod Differing
+pub mod Classes
+pub mod Binding
+pub mod Unifying
+pub mod LineCells

@@ -1,0 +1,5 @@
+pub mod NameLaws
+pub mod LookLaws
+pub mod TakeLaws
+pub mod SplitLaws
+pub mod BranchLaws

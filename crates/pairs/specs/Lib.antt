@@ -1,0 +1,4 @@
+pub mod Looking
+pub mod Taking
+pub mod Splitting
+pub mod Branching

@@ -1,4 +1,0 @@
-pub mod TrailLaws
-pub mod SavedTurns
-pub mod SavedLaws
-pub mod ReplayTurns

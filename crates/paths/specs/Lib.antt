@@ -1,3 +1,0 @@
-pub mod TrailCells
-pub mod SavedCells
-pub mod ReplayCells

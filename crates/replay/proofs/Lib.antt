@@ -1,0 +1,4 @@
+pub mod FollowTurns
+pub mod RecordLaws
+pub mod RoomLaws
+pub mod ReplayLaws

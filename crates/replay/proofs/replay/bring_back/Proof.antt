@@ -1,0 +1,27 @@
+use Rattle.replay.specs.Replaying.{broughtBack}
+use borrow.Author.Needs.{needs}
+use Rattle.replay.proofs.replay.bring_back.Statement.{statement}
+use Rattle.replay.proofs.replay.bring_back.Tie as tie
+use Rattle.replay.proofs.replay.bring_back.Reads as reads
+use Rattle.replay.proofs.replay.bring_back.Lts as lts
+use Rattle.replay.proofs.replay.follow.Reads as follow-reads
+use Rattle.replay.proofs.replay.kept_top.Reads as kept-top-reads
+use Rattle.saving.proofs.saved.load.Reads as load-reads
+
+load-requires : tie.Need-load-requires
+load-requires c κs = search needs
+
+kept-top-requires : tie.Need-kept-top-requires
+kept-top-requires c κs = search needs
+
+follow-requires : tie.Need-follow-requires
+follow-requires c κs = search needs
+
+returns : tie.Need-returns
+unfolding broughtBack
+returns c =
+    let k = c .before .before .before .before .before in
+    rw (← (k .before .before .load .ensures), ← (k .kept-top .ensures), ← (c .follow .ensures))
+
+pub bring-back-spec : {M : Type 1} → statement M
+bring-back-spec = tie.close (tie.spec load-requires kept-top-requires follow-requires returns)

@@ -1,3 +1,0 @@
-pub mod OutputCells
-pub mod ForwardCells
-pub mod InputsCells

@@ -1,0 +1,5 @@
+pub mod OlderTurns
+pub mod RecordLaws
+pub mod HoldingLaws
+pub mod SavedLaws
+pub mod BackLaws

@@ -1,2 +1,0 @@
-pub mod DatumCells
-pub mod StartCells

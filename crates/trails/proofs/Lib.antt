@@ -1,0 +1,2 @@
+pub mod TrailLaws
+pub mod ReachLaws

@@ -1,2 +1,0 @@
-pub mod Disagreeing
-pub mod Meeting

@@ -1,0 +1,12 @@
+pub mod ValueTurns
+pub mod ValueLaws
+pub mod ArgumentTurns
+pub mod RoomLaws
+pub mod ArgumentLaws
+pub mod CallLaws
+pub mod BindLaws
+pub mod StateLaws
+pub mod SizeLaws
+pub mod PairLaws
+pub mod CallLeads
+pub mod ContractionLaws

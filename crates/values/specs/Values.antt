@@ -1,0 +1,58 @@
+-- The values of expressions over cells of any content.
+use Prim.Native.Nat.{ℕ, zero, suc, _+_, _-_, min}
+use mathlib.Core.Bool.{cond}
+use mathlib.Core.List.{List, [], _∷_}
+use lib.Dec.{eqb, ltb}
+use lib.ListN.{getD}
+use Rattle.sets.specs.Fill.{FillAnswer, fillAnswer}
+use Rattle.sets.specs.declared.fill.Filled.{Filled}
+use Rattle.sets.specs.declared.fill.Filled.the-variants.{Done, Over as FilledOver}
+use Rattle.heap.specs.Runs.{written, appended}
+use Rattle.heap.specs.Entries.{entryFrom, entryTo}
+use Rattle.linking.specs.Code.{linkAt}
+use Rattle.values.specs.declared.tokens.Place.{Place}
+use Rattle.values.specs.declared.value.Valued.{Valued}
+use Rattle.values.specs.declared.value.Valued.the-variants.{At, Over}
+
+-- where an entry's value stands; nothing past the last entry
+unfoldable pub entryAt : List ℕ → ℕ → Place
+entryAt f i = cond (ltb i 4120) (record { from = entryFrom f i; to = entryTo f i }) (record { from = 0; to = 0 })
+
+abbrev pub placeAt : ℕ → ℕ → ℕ
+placeAt base place = min base 4120 + place
+
+-- on from an answer
+abbrev pub onwardFill : (ℕ → List ℕ → FillAnswer) → Filled → List ℕ → FillAnswer
+onwardFill again (Done k) h = again k h
+onwardFill again FilledOver h = fillAnswer FilledOver h
+
+module _ (code frame : List ℕ) (base : ℕ) where
+  -- the cells of a token, at k
+  unfoldable pub tokenWritten : ℕ → ℕ → List ℕ → FillAnswer
+  tokenWritten j k h =
+      let l = linkAt code j in
+      let e = entryAt frame (placeAt base (l .first)) in
+      cond (eqb (l .mark) 1) (written k 1 (l .first ∷ []) h) (cond (eqb (l .mark) 2) (appended (e .from) (e .to) k h) (fillAnswer (Done k) h))
+
+  -- those of `left` tokens from j on
+  unfoldable pub tokensWritten : ℕ → ℕ → ℕ → List ℕ → FillAnswer
+  tokensWritten zero j k h = fillAnswer (Done k) h
+  tokensWritten (suc left) j k h = let w = tokenWritten j k h in onwardFill (λ m g. tokensWritten left (j + 1) m g) (w .answer) (w .cells)
+
+pub record ValueLeft : Type 0 where
+  pub answer : Valued
+  pub heap : List ℕ
+
+abbrev pub valueLeft : Valued → List ℕ → ValueLeft
+valueLeft a h = record { answer = a; heap = h }
+
+abbrev pub madeAt : ℕ → Filled → Valued
+madeAt used (Done k) = At used k k
+madeAt used FilledOver = Over
+
+unfoldable pub valueAt : List ℕ → List ℕ → ℕ → ℕ → ℕ → List ℕ → ValueLeft
+valueAt code frame base used i h =
+    let l = linkAt code i in
+    let e = entryAt frame (placeAt base (l .first)) in
+    let w = tokensWritten code frame base (l .past - i) i used h in
+    cond (eqb (l .mark) 2) (valueLeft (At (e .from) (e .to) used) h) (valueLeft (madeAt used (w .answer)) (w .cells))

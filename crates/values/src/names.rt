@@ -1,0 +1,11 @@
+// Where the entries of the names in reach begin: behind those of the inputs and the wanted outputs.
+use heap::configuration::Configuration;
+use sets::cell;
+ghost use mathlib.Core.Path.{_≡_};
+ghost use Rattle.values.specs.Names.{namesFrom};
+
+pub fn names_from(c: Configuration) -> usize
+    ensures { λ r. ⌜ r ≡ namesFrom c ⌝ }
+{
+    cell::least(c.inputs, 4120) + cell::least(c.outputs, 4120)
+}

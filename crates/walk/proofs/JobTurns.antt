@@ -1,0 +1,49 @@
+-- The walk of a job: what is left behind each way that it begins.
+use Prim.Native.Nat.{ℕ}
+use mathlib.Core.Path.{_≡_, ap, _∙_, sym as inv}
+use mathlib.Core.Bool.{false}
+use mathlib.Core.List.{List}
+use lib.ListN.{replicate}
+use Rattle.syntax.specs.declared.job_ends.JobEnds.{JobEnds}
+use Rattle.syntax.specs.declared.numerals.Numerals.{Numerals}
+use Rattle.heap.specs.declared.configuration.Configuration.{Configuration}
+use Rattle.saving.specs.Saving.{saveLeft, savedTo}
+use Rattle.initial.specs.Beginning.{BegunLeft, begunLeft, begunAt}
+use Rattle.initial.specs.declared.begin.Begun.{Begun}
+use Rattle.initial.specs.declared.begin.Begun.the-variants.{On, None, Over as BegunOver}
+use Rattle.walk.specs.Finding.{walked, nothingFound, counted}
+use Rattle.walk.specs.States.{stateAt}
+use Rattle.walk.specs.Walking.{walkedLeft, walkedOn}
+use Rattle.walk.specs.Jobs.{jobLeft, boundsOf, firstNode, ofWalk, walkSaved, walkFirst, walkBegun, onBegun, walkJob}
+use Rattle.walk.specs.declared.found.Found.{Found}
+use Rattle.walk.specs.declared.found.Ending.the-variants.{Done, Over}
+use Rattle.walk.specs.declared.found.Walked.{Walked}
+use Rattle.walk.specs.declared.state.State.{State}
+
+-- behind the first transition
+pub first-walks : (code : List ℕ) (c : Configuration) (k : Numerals) (h f q a : List ℕ) {top : ℕ} {saved : List ℕ} {n o : Found} {s : State} {r : Walked} {h′ f′ q′ p′ s′ a′ : List ℕ} →
+    saveLeft top saved ≡ savedTo f q (firstNode c) 0 0 (replicate 16384 0) → n ≡ nothingFound → o ≡ counted n → s ≡ stateAt (record { node = firstNode c; top = top }) o →
+    walkedLeft r h′ f′ q′ p′ s′ a′ ≡ walkedOn code (boundsOf k top) s h f q (replicate 1000 0) saved a → jobLeft r a′ ≡ walkFirst code c k h f q a
+unfolding walkFirst
+first-walks code c k h f q a {top} {saved} {n} {o} {s} kept e d at w =
+    let g : o ≡ counted nothingFound = d ∙ ap counted e in
+    let t = at ∙ ap (stateAt (record { node = firstNode c; top = top })) g in
+    ap ofWalk w ∙ ap (λ (z : State). ofWalk (walkedOn code (boundsOf k top) z h f q (replicate 1000 0) saved a)) t ∙ ap (walkSaved code c k h f q a) kept
+
+module _ (code : List ℕ) (body : ℕ) (jmarks jnums : List ℕ) (e : JobEnds) (k : Numerals) (a : List ℕ) {b : Begun} {h f q : List ℕ}
+    (is : begunLeft b h f q ≡ begunAt body jmarks jnums e false (replicate 65535 0) (replicate 12360 0) (replicate 4096 0)) where
+  begun-as : onBegun code k a (begunLeft b h f q) b ≡ walkJob code body jmarks jnums e k a
+  unfolding walkJob
+  begun-as = ap (λ (w : BegunLeft). onBegun code k a w (w .answer)) is
+
+  answered-as : (x : Begun) → b ≡ x → onBegun code k a (begunLeft b h f q) x ≡ walkJob code body jmarks jnums e k a
+  answered-as x i = ap (onBegun code k a (begunLeft b h f q)) (inv i) ∙ begun-as
+
+  pub job-on : {c : Configuration} {r : Walked} {a′ : List ℕ} → b ≡ On c → jobLeft r a′ ≡ walkBegun code c k h f q a → jobLeft r a′ ≡ walkJob code body jmarks jnums e k a
+  job-on {c} i w = w ∙ answered-as (On c) i
+
+  pub job-none : {n : Found} {r : Walked} → b ≡ None → n ≡ nothingFound → r ≡ walked Done n → jobLeft r a ≡ walkJob code body jmarks jnums e k a
+  job-none i g w = ap (λ (r : Walked). jobLeft r a) (w ∙ ap (walked Done) g) ∙ answered-as None i
+
+  pub job-over : {n : Found} {r : Walked} → b ≡ BegunOver → n ≡ nothingFound → r ≡ walked Over n → jobLeft r a ≡ walkJob code body jmarks jnums e k a
+  job-over i g w = ap (λ (r : Walked). jobLeft r a) (w ∙ ap (walked Over) g) ∙ answered-as BegunOver i

@@ -1,0 +1,5 @@
+pub mod WalkTurns
+pub mod JobTurns
+pub mod PlanLaws
+pub mod WalkLaws
+pub mod JobLaws

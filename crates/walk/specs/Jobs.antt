@@ -1,0 +1,60 @@
+-- The walk of a job: what each function of job.rt answers and leaves.
+use Prim.Native.Nat.{ℕ}
+use mathlib.Core.Bool.{false, cond}
+use mathlib.Core.List.{List}
+use lib.Dec.{eqb, ltb}
+use lib.ListN.{replicate}
+use Rattle.syntax.specs.declared.job_ends.JobEnds.{JobEnds}
+use Rattle.syntax.specs.declared.numerals.Numerals.{Numerals}
+use Rattle.heap.specs.declared.configuration.Configuration.{Configuration}
+use Rattle.values.specs.Sizes.{keptNodes}
+use Rattle.initial.specs.Beginning.{BegunLeft, begunAt}
+use Rattle.initial.specs.declared.begin.Begun.{Begun}
+use Rattle.initial.specs.declared.begin.Begun.the-variants.{On, None, Over as BegunOver}
+use Rattle.saving.specs.Saving.{SaveLeft, savedTo}
+use Rattle.saving.specs.declared.head.Node.{Node}
+use Rattle.replay.specs.declared.position.Bounds.{Bounds}
+use Rattle.walk.specs.Finding.{walked, nothingFound, counted, cutOff}
+use Rattle.walk.specs.States.{stateAt}
+use Rattle.walk.specs.Walking.{WalkedLeft, walkedOn}
+use Rattle.walk.specs.declared.found.Ending.the-variants.{Done, Over, Spent}
+use Rattle.walk.specs.declared.found.Walked.{Walked}
+
+-- what a walk comes to, and the answer storage
+pub record JobLeft : Type 0 where
+  pub walked : Walked
+  pub answer : List ℕ
+
+abbrev pub jobLeft : Walked → List ℕ → JobLeft
+jobLeft r a = record { walked = r; answer = a }
+
+abbrev pub boundsOf : Numerals → ℕ → Bounds
+boundsOf k base = record { steps = k .steps; walk = k .walk; table = k .table; base = base }
+
+-- behind the first transition
+abbrev pub firstNode : Configuration → Node
+firstNode c = record { at = c; steps = 1; depth = 0 }
+
+abbrev pub ofWalk : WalkedLeft → JobLeft
+ofWalk w = jobLeft (w .walked) (w .answer)
+
+abbrev pub walkSaved : List ℕ → Configuration → Numerals → List ℕ → List ℕ → List ℕ → List ℕ → SaveLeft → JobLeft
+walkSaved code c k h f q a s =
+    ofWalk (walkedOn code (boundsOf k (s .top)) (stateAt (record { node = firstNode c; top = s .top }) (counted nothingFound)) h f q (replicate 1000 0) (s .saved) a)
+
+unfoldable pub walkFirst : List ℕ → Configuration → Numerals → List ℕ → List ℕ → List ℕ → List ℕ → JobLeft
+walkFirst code c k h f q a = walkSaved code c k h f q a (savedTo f q (firstNode c) 0 0 (replicate 16384 0))
+
+unfoldable pub walkBegun : List ℕ → Configuration → Numerals → List ℕ → List ℕ → List ℕ → List ℕ → JobLeft
+walkBegun code c k h f q a =
+    cond (ltb 4096 (keptNodes (c .entries) (c .neqs) f)) (jobLeft (walked Over nothingFound) a)
+    (cond (eqb (k .steps) 0) (jobLeft (walked Done (cutOff nothingFound)) a) (cond (eqb (k .walk) 0) (jobLeft (walked Spent nothingFound) a) (walkFirst code c k h f q a)))
+
+abbrev pub onBegun : List ℕ → Numerals → List ℕ → BegunLeft → Begun → JobLeft
+onBegun code k a w (On c) = walkBegun code c k (w .heap) (w .frame) (w .q) a
+onBegun code k a w None = jobLeft (walked Done nothingFound) a
+onBegun code k a w BegunOver = jobLeft (walked Over nothingFound) a
+
+unfoldable pub walkJob : List ℕ → ℕ → List ℕ → List ℕ → JobEnds → Numerals → List ℕ → JobLeft
+walkJob code body jmarks jnums parts k a =
+    let w = begunAt body jmarks jnums parts false (replicate 65535 0) (replicate 12360 0) (replicate 4096 0) in onBegun code k a w (w .answer)

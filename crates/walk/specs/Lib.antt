@@ -1,0 +1,6 @@
+pub mod Finding
+pub mod States
+pub mod Planning
+pub mod Backing
+pub mod Walking
+pub mod Jobs

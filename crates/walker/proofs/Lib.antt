@@ -1,9 +1,0 @@
-pub mod WalkTurns
-pub mod WalkLengths
-pub mod SuccessorLaws
-pub mod ReplayLaws
-pub mod AheadLaws
-pub mod PlanLaws
-pub mod WalkLaws
-pub mod WalkStart
-pub mod JobTurns

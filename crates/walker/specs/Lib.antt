@@ -1,2 +1,0 @@
-pub mod WalkCells
-pub mod JobCells
