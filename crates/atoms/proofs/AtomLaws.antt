@@ -15,7 +15,7 @@ use Rattle.language.specs.Scope.{inScope, isAtomic}
 use Rattle.semantics.specs.Configuration.{Configuration, substOfEnv, nodesState, ExpEnv}
 use Rattle.semantics.proofs.Scopes.{WellScoped, scoped-eqa}
 use Rattle.sets.specs.Cells.{atomicCode}
-use Rattle.heap.specs.Runs.{cellsAt}
+use Rattle.runs.specs.Runs.{cellsAt}
 use Rattle.heap.specs.Entries.{entryFrom, entryTo}
 use Rattle.heap.specs.declared.configuration.Configuration.{Configuration as InCells}
 use Rattle.heap.proofs.HeapLaws.{Holds}

@@ -28,7 +28,7 @@ use Rattle.heap.specs.Contracted.{Stores}
 use Rattle.heap.specs.Moving.{Left, left, grownStores, boundCell, boundRestriction, leafFrom, leafBound, restrictedLeft, contracted}
 use Rattle.heap.specs.declared.configuration.Configuration.{Configuration as InCells}
 use Rattle.heap.specs.declared.configuration.Moved.the-variants.{On, Over}
-use Rattle.heap.proofs.RunLaws.{Below, below-self}
+use Rattle.runs.proofs.RunLaws.{Below, below-self}
 use Rattle.heap.proofs.HeapLaws.{filling-a}
 use Rattle.linking.specs.Linked.{TermLinked}
 use Rattle.values.proofs.StateLaws.{HoldsPair, Stands, Arrives, Leads, none-leads, leads-to}
@@ -93,9 +93,9 @@ module _ (p : Prog) (bodies : ℕ → ℕ) (code : List ℕ) {h f q : List ℕ} 
     entries-lead out r w (inr a) =
         on-leads p bodies code h (c .used) (grownStores c (length out) r w) (usedTo (a .now) (countedAs (length out))) (rw (a .done)) (a .holds) (a .same) (a .grown) (omega (arith, a .most)) linked fresh
 
-    bound-leads : Leads p bodies code h (c .used) (configuration t k (contract (bindA m z) P)) ((leafBound c (avarCode m) (atomicCode z) h f q))
+    bound-leads : simplify (P .neqs) ≡ some (P .neqs) → Leads p bodies code h (c .used) (configuration t k (contract (bindA m z) P)) ((leafBound c (avarCode m) (atomicCode z) h f q))
     unfolding leafBound boundRestriction
-    bound-leads = rw (code-tag m 3 (omega arith)) (go (substRestriction (substA m z) (P .neqs)) (bindCells (c .neqs) (avarCode m) (atomicCode z) q) (rw (x .count) (bindCells-means m z (P .neqs) q (x .neqs))))
+    bound-leads simple = rw (code-tag m 3 (omega arith)) (go (substRestriction (substA m z) (P .neqs)) (bindCells (c .neqs) (avarCode m) (atomicCode z) q) (rw (x .count) (bindCells-means m z (P .neqs) q (x .neqs) simple)))
       where
         go : (o : Option Restriction) (w : RestrictAnswer) → Answers (length (P .neqs)) q o w →
             Leads p bodies code h (c .used) (configuration t k (applyPair (substA m z) P o)) ((leafFrom c (avarCode m) (atomicCode z) h f w))
@@ -105,14 +105,14 @@ module _ (p : Prog) (bodies : ℕ → ℕ) (code : List ℕ) {h f q : List ℕ} 
             (bound-cell (pair-restricted x (countedAs (length out)) out (w .cells) refl refl refl refl refl (a .1) (a .4 ∙ x .q-size)) few (filling-a m z)))
 
   -- the true branch
-  equal-taken : (y z : AtomicExp) → Leads p bodies code h (c .used) (configuration t k (contract (splitAtomic y z .yes) P)) ((contracted (equality (atomicCode y) (atomicCode z)) c h f q))
-  equal-taken y z = rw (atomicCode-same y z) (pick (sameAtomic y z))
+  equal-taken : simplify (P .neqs) ≡ some (P .neqs) → (y z : AtomicExp) → Leads p bodies code h (c .used) (configuration t k (contract (splitAtomic y z .yes) P)) ((contracted (equality (atomicCode y) (atomicCode z)) c h f q))
+  equal-taken simple y z = rw (atomicCode-same y z) (pick (sameAtomic y z))
     where
       unequal : (u v : AtomicExp) → Leads p bodies code h (c .used) (configuration t k (contract (mkBind u v) P))
           ((contracted (cond (eqb (atomicCode u % 4) 3) (Bind (atomicCode u) (atomicCode v)) (cond (eqb (atomicCode v % 4) 3) (Bind (atomicCode v) (atomicCode u)) Contradictory)) c h f q))
       unequal (sym a) (sym b) = rw (code-tag a 1 (omega arith), code-tag b 1 (omega arith)) (none-leads p bodies code _)
-      unequal (sym a) (avar m) = rw (code-tag a 1 (omega arith), code-tag m 3 (omega arith)) (bound-leads m (sym a))
-      unequal (avar m) v = rw (code-tag m 3 (omega arith)) (bound-leads m v)
+      unequal (sym a) (avar m) = rw (code-tag a 1 (omega arith), code-tag m 3 (omega arith)) (bound-leads m (sym a) simple)
+      unequal (avar m) v = rw (code-tag m 3 (omega arith)) (bound-leads m v simple)
 
       pick : (b : Bool) → Leads p bodies code h (c .used) (configuration t k (contract (cond b identity (mkBind y z)) P))
           ((contracted (cond b Identity (cond (eqb (atomicCode y % 4) 3) (Bind (atomicCode y) (atomicCode z)) (cond (eqb (atomicCode z % 4) 3) (Bind (atomicCode z) (atomicCode y)) Contradictory))) c h f q))
@@ -138,11 +138,11 @@ module _ (p : Prog) (bodies : ℕ → ℕ) (code : List ℕ) {h f q : List ℕ} 
   at-place : (i : ℕ) → HoldsPair h f q (placedAt i c) (S .names) (K .cr)
   at-place i = pair-same (S .holds) (placedAt i c) refl refl refl refl refl
 
-  pub equal-leads : Leads p bodies code h (c .used) (configuration t (K .fresh) (contract (splitAtomic x y .yes) (K .cr))) (equalTaken code c (atomicCode x) (atomicCode y) h f q)
+  pub equal-leads : simplify (K .cr .neqs) ≡ some (K .cr .neqs) → Leads p bodies code h (c .used) (configuration t (K .fresh) (contract (splitAtomic x y .yes) (K .cr))) (equalTaken code c (atomicCode x) (atomicCode y) h f q)
   unfolding equalTaken takenBy
-  equal-leads =
+  equal-leads simple =
       let s = parts p bodies code S is in
-      rw (s .linked) (equal-taken p bodies code (at-place (s .end + 1)) small room (s .true-branch) (S .fresh) x y)
+      rw (s .linked) (equal-taken p bodies code (at-place (s .end + 1)) small room (s .true-branch) (S .fresh) simple x y)
 
   pub unequal-leads : length (K .cr .neqs) ≤ 2047 → simplify (K .cr .neqs) ≡ some (K .cr .neqs) → Leads p bodies code h (c .used) (configuration u (K .fresh) (contract (splitAtomic x y .no) (K .cr))) (unequalTaken code c (atomicCode x) (atomicCode y) h f q)
   unfolding unequalTaken takenBy

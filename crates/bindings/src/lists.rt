@@ -10,7 +10,7 @@ ghost use mathlib.Core.Path.{_≡_};
 ghost use Prim.Native.Nat.{_-_, min};
 ghost use lib.ListN.{length, set};
 ghost use Rattle.resolve.specs.ListAnswer.{listLeft};
-ghost use Rattle.writer.specs.Sink.{windowed};
+ghost use Rattle.window.specs.Sink.{windowed};
 ghost use Rattle.print.specs.ListedText.{listedText};
 ghost use Rattle.answers.specs.ListNumbers.{caseOf, firstOf, secondOf, answerFrom};
 

@@ -10,7 +10,7 @@ ghost use mathlib.Core.Path.{_≡_};
 ghost use Prim.Native.Nat.{_-_, min};
 ghost use lib.ListN.{length, set};
 ghost use Rattle.resolve.specs.RunAnswer.{runLeft};
-ghost use Rattle.writer.specs.Sink.{windowed};
+ghost use Rattle.window.specs.Sink.{windowed};
 ghost use Rattle.print.specs.RanText.{ranText};
 ghost use Rattle.answers.specs.RunNumbers.{caseOf, firstOf, secondOf, answerFrom};
 

@@ -1,6 +1,6 @@
 -- One level of the check by position opened, by the tests of the code.
 use Prim.Native.Nat.{ℕ, zero, suc, _+_, _-_, _≤_, _<_}
-use mathlib.Core.Path.{_≡_, refl}
+use mathlib.Core.Path.{_≡_, refl, ap, _∙_, sym}
 use mathlib.Core.Bool.{Bool, false, cond, _&&_, _||_, not}
 use mathlib.Core.List.{List}
 use native.Mathlib.Omega.{arith}
@@ -10,7 +10,7 @@ use Rattle.checker.specs.declared.check.Verdict.{Verdict}
 use Rattle.checker.specs.declared.check.Verdict.the-variants.{Fine, Fault}
 use Rattle.checker.specs.declared.check.Names.{Names}
 use Rattle.checker.specs.declared.check.Defs.{Defs}
-use Rattle.checker.specs.CheckAt.{first, ahead, arguments, noNames, push, pick, pickTerm, sameName, isNamed, inReach, leafAt, pairAt, expAt, argAt, argsAt, placeAt, formAt, termAt, paramsAt, paramsEnd, paramsTwice, defAt, defsAt, bodyAt, bodiesAt}
+use Rattle.checker.specs.CheckAt.{Put, first, ahead, arguments, noNames, names, push, pick, pickTerm, sameName, isNamed, inReach, leafAt, pairAt, expAt, argAt, argsAt, placeAt, formAt, termAt, paramsAt, paramsEnd, paramsTwice, defAt, defsAt, bodyAt, bodiesAt}
 
 -- the number that falls is 0, or the next of the one before it
 pub less : (k : ℕ) → suc k - 1 ≡ k
@@ -93,6 +93,12 @@ unfolding paramsAt
 params-more {k = zero} f key n sc i = absurd (f refl)
 params-more {k = suc k} f key n sc i = rw (less k)
 
+-- one parameter more, put in its cell
+pub params-put : {k : ℕ} → (k ≡ 0 → ⊥) → (key : ℕ → ℕ) (n : ℕ) (a b : List ℕ) (u v i : ℕ) → eqb (key i) 4 ≡ false → Put a u i b v →
+    paramsAt key n k (names a u) i ≡ paramsAt key n (k - 1) (names b v) (ahead n 1 i)
+params-put {k} f key n a b u v i e p =
+    params-more f key n (names a u) i ∙ ap (λ t. cond t (names a u) (paramsAt key n (k - 1) (push (names a u) i) (ahead n 1 i))) e ∙ ap (λ sc. paramsAt key n (k - 1) sc (ahead n 1 i)) (sym (p .is))
+
 pub end-none : {k : ℕ} → k ≡ 0 → (key : ℕ → ℕ) (n i : ℕ) → paramsEnd key n k i ≡ i
 unfolding paramsEnd
 end-none e key n i = rw e
@@ -112,6 +118,14 @@ pub twice-more : {k : ℕ} → (k ≡ 0 → ⊥) → (key kind num at : ℕ → 
 unfolding paramsTwice
 twice-more {k = zero} f key kind num at n before i = absurd (f refl)
 twice-more {k = suc k} f key kind num at n before i = rw (less k)
+
+pub twice-put : {k : ℕ} → (k ≡ 0 → ⊥) → (key kind num at : ℕ → ℕ) (n : ℕ) (a b : List ℕ) (u v i : ℕ) → eqb (key i) 4 ≡ false → inReach key kind num at n (names a u) i ≡ false → Put a u i b v →
+    paramsTwice key kind num at n k (names a u) i ≡ paramsTwice key kind num at n (k - 1) (names b v) (ahead n 1 i)
+twice-put {k} f key kind num at n a b u v i e r p =
+    twice-more f key kind num at n (names a u) i
+    ∙ ap (λ t. cond t Fine (cond (inReach key kind num at n (names a u) i) (Fault 6 (at i)) (paramsTwice key kind num at n (k - 1) (push (names a u) i) (ahead n 1 i)))) e
+    ∙ ap (λ t. cond t (Fault 6 (at i)) (paramsTwice key kind num at n (k - 1) (push (names a u) i) (ahead n 1 i))) r
+    ∙ ap (λ sc. paramsTwice key kind num at n (k - 1) sc (ahead n 1 i)) (sym (p .is))
 
 pub defs-none : {k : ℕ} → k ≡ 0 → (key kind num at : ℕ → ℕ) (n : ℕ) (ds : Defs) → defsAt key kind num at n k ds ≡ ds
 unfolding defsAt

@@ -34,6 +34,10 @@ ahead n k i = cond (ltb n k) n (cond (ltb (n - k) i) n (i + k))
 abbrev pub walked : ℕ → Verdict → Verdict → Walked
 walked k v w = record { past = k; names = v; uses = w }
 
+-- 7 at the name of a call, then what its arguments have
+abbrev pub called : ℕ → Verdict → Verdict → Walked
+called k v w = walked k Fine (first v w)
+
 abbrev pub arguments : ℕ → Bool → Verdict → Args
 arguments k b v = record { past = k; fits = b; uses = v }
 
@@ -157,7 +161,7 @@ module _ (key kind num at : ℕ → ℕ) (n : ℕ) where
         let f = ahead n 2 i in
         let g = placeAt num heads count 0 (num f) in
         let c = argsAt n room sc (ahead n 2 (getD heads g 0)) true Fine (ahead n 4 i) in
-        walked (ahead n 2 (c .past)) Fine (first (judge (ltb g count && c .fits) 7 (at f)) (c .uses))
+        called (ahead n 2 (c .past)) (judge (ltb g count && c .fits) 7 (at f)) (c .uses)
 
     -- `(if (eqa? ea ea) t t)`
     abbrev pub eqaAt : (Names → ℕ → Walked) → ℕ → Names → ℕ → Walked

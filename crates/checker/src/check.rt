@@ -2,7 +2,7 @@
 ghost use mathlib.Core.Path.{_≡_};
 ghost use mathlib.Core.Bool.{_&&_, _||_, not};
 ghost use lib.ListN.{getD};
-ghost use Rattle.checker.specs.CheckAt.{first, judge, Put, push, noNames};
+ghost use Rattle.checker.specs.CheckAt.{first, judge, called};
 
 // What a check finds: nothing, or the first fault.
 pub enum Verdict {
@@ -59,6 +59,17 @@ pub fn judge(passes: bool, number: usize, offset: usize) -> Verdict
     Verdict::Fault { number, offset }
 }
 
+// What a call comes to, by what was found of its name and of its arguments: its name stands first.
+pub fn called(past: usize, callee: Verdict, arguments: Verdict) -> Walked
+    ensures { λ r. ⌜ r ≡ called past callee arguments ⌝ }
+{
+    Walked {
+        past: past,
+        names: Verdict::Fine,
+        uses: first(callee, arguments),
+    }
+}
+
 pub fn both(a: bool, b: bool) -> bool
     ensures { λ r. ⌜ r ≡ (a && b) ⌝ }
 {
@@ -82,40 +93,4 @@ pub fn index(s: &[usize], i: usize) -> usize
     ensures { λ r. ⌜ r ≡ getD (now (s .entry)) i 0 ⌝ }
 {
     if i < s.len() { s[i] } else { 0 }
-}
-
-pub fn none() -> Names
-    ensures { λ r. ⌜ r ≡ noNames ⌝ }
-{
-    Names {
-        cells: [0usize; 144],
-        used: 0,
-    }
-}
-
-// One name more, in cells that are lent: how many are used then.
-pub(crate) fn put(cells: &mut [usize; 144], used: usize, x: usize) -> usize
-    ensures { λ r. ⌜ Put (now (cells .entry)) used x (now (cells .exit)) r ⌝ }
-{
-    if used < 144 {
-        cells[used] = x;
-        return used + 1;
-    }
-    used
-}
-
-// One name more.
-pub fn push(sc: Names, x: usize) -> Names
-    ensures { λ r. ⌜ r ≡ push sc x ⌝ }
-{
-    let used = sc.used;
-    if used < 144 {
-        let mut cells = sc.cells;
-        cells[used] = x;
-        return Names {
-            cells: cells,
-            used: used + 1,
-        };
-    }
-    sc
 }

@@ -31,7 +31,7 @@ fn same_name(marks: &[u16], nums: &[u16], n: usize, i: usize, j: usize) -> bool
 }
 
 // Whether the name at `i` is among the first `used` of `cells`.
-pub(crate) fn is_named(
+pub fn is_named(
     marks: &[u16],
     nums: &[u16],
     n: usize,
@@ -53,7 +53,7 @@ pub(crate) fn is_named(
 }
 
 // An e of one token: "9 variable not in reach".
-pub(crate) fn leaf(
+pub fn leaf(
     marks: &[u16],
     nums: &[u16],
     ats: &[u16],
@@ -81,7 +81,7 @@ pub(crate) fn leaf(
 }
 
 // An e: "`(cons e e)`, xe or ea".
-pub(crate) fn exp(
+pub fn exp(
     marks: &[u16],
     nums: &[u16],
     ats: &[u16],
@@ -113,7 +113,7 @@ pub(crate) fn exp(
 }
 
 // "`(cons e e)`".
-pub(crate) fn pair(
+pub fn pair(
     marks: &[u16],
     nums: &[u16],
     ats: &[u16],
@@ -148,7 +148,7 @@ fn atomic(marks: &[u16], n: usize, i: usize) -> bool
 }
 
 // "8 not atomic where an ea is due", then 9.
-pub(crate) fn ea(
+pub fn ea(
     marks: &[u16],
     nums: &[u16],
     ats: &[u16],
@@ -192,7 +192,7 @@ fn arg(
 }
 
 // The arguments from `i` on, the parameters from `p` on: `fits` is whether they are as many so far, `uses` the first fault so far.
-pub(crate) fn args(
+pub fn args(
     marks: &[u16],
     nums: &[u16],
     ats: &[u16],

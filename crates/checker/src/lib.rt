@@ -1,6 +1,5 @@
-// The check of a program (01, "From the input": 6 to 9) over stored tokens that the grammar has passed.
+// The check of expressions and arguments by their tokens (01, "From the input": 8 and 9), what a check comes to, and the tokens it asks. specs/ define the
+// check of a whole program by position; `programs` goes through its terms and definitions.
 pub mod check;
-mod check_expressions;
-pub mod check_program;
-mod check_terms;
+pub mod check_expressions;
 pub mod places;

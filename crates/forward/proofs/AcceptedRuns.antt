@@ -18,7 +18,7 @@ use Rattle.lexer.specs.Lexed.{State}
 use Rattle.checker.specs.StoredAt.{keyAt}
 use Rattle.syntax.specs.PartEnds.{partEnds}
 use Rattle.syntax.proofs.JobRead.{JobStored}
-use Rattle.texts.specs.ReadCells.{zeros}
+use Rattle.lent.specs.Storage.{zeros}
 use Rattle.semantics.specs.Embedding.{embed}
 use Rattle.semantics.specs.Runner.{Ran, value, ranOver, notWithin, nodesValue, runner}
 use Rattle.semantics.specs.Answer.{inputs}
@@ -29,8 +29,9 @@ use Rattle.initial.specs.Beginning.{BegunLeft, begunAt}
 use Rattle.initial.proofs.EmbedLaws.{noughts, ones, all-embed}
 use Rattle.initial.proofs.RunBegins.{RunsAs, accepted-runs}
 use Rattle.tracing.proofs.ShowLaws.{Accepted}
-use Rattle.forward.specs.Running.{RanAnswer, ranAnswer, settled, runBegun, runInputs}
-use Rattle.forward.specs.declared.ran.Ran.the-variants.{Value as RanValue, Over as RanOver, NotWithin}
+use Rattle.running.specs.Answers.{RanAnswer, ranAnswer, settled}
+use Rattle.forward.specs.Running.{runBegun, runInputs}
+use Rattle.running.specs.declared.ran.Ran.the-variants.{Value as RanValue, Over as RanOver, NotWithin}
 use Rattle.forward.proofs.RunMeans.{RanMeans, runner-over, run-means}
 
 -- "The runner's value stands in its answer storage in the same way. It stops only with 21 or `not within N`, and then its answer storage is zero."

@@ -23,7 +23,7 @@ use Rattle.sets.specs.Cells.{cells}
 use Rattle.sets.proofs.CellLaws.{cells-nodes}
 use Rattle.heap.specs.Entries.{nodesFrom}
 use Rattle.heap.specs.declared.configuration.Configuration.{Configuration as InCells}
-use Rattle.heap.proofs.RunLaws.{below-self}
+use Rattle.runs.proofs.RunLaws.{below-self}
 use Rattle.heap.proofs.FrameLaws.{Held}
 use Rattle.heap.proofs.FrameLaws as frame
 use Rattle.heap.proofs.PartLaws.{held-first}
@@ -40,7 +40,7 @@ use Rattle.tracing.proofs.ShowLaws.{Accepted, end-at, call-at, same-at, test-at
 use Rattle.forward.specs.Next.{endsAt, overIn}
 use Rattle.forward.specs.Output.{OutLeft, tokensPut}
 use Rattle.forward.specs.Turning.{outputRoom, FinishLeft, finishedBy, finished}
-use Rattle.forward.specs.declared.ran.Ran.the-variants.{Value as RanValue, Over}
+use Rattle.running.specs.declared.ran.Ran.the-variants.{Value as RanValue, Over}
 use Rattle.forward.proofs.PutLaws.{Puts}
 use Rattle.forward.proofs.OutputLaws.{Sources, output-means}
 use Rattle.forward.proofs.WayLaws.{at}

@@ -10,8 +10,9 @@ use Rattle.tracing.specs.declared.ask.Asked.{Asked}
 use Rattle.forward.specs.Naming.{argumentFrom}
 use Rattle.forward.specs.Output.{outLeft, onwardFrom, tokenPut, tokensPut}
 use Rattle.forward.specs.Turning.{turned}
-use Rattle.forward.specs.Running.{ranAnswer, afterTurn, ranFrom}
-use Rattle.forward.specs.declared.ran.Ran.the-variants.{NotWithin}
+use Rattle.running.specs.Answers.{ranAnswer}
+use Rattle.forward.specs.Running.{afterTurn, ranFrom}
+use Rattle.running.specs.declared.ran.Ran.the-variants.{NotWithin}
 
 none-left : (c j : ℕ) → c ≤ j → c - j ≡ 0
 none-left c j l = omega arith

@@ -23,7 +23,7 @@ use Rattle.semantics.specs.Trace.{Successors, called, branches, configuration, 
 use Rattle.semantics.proofs.Forward.{apply-embed}
 use Rattle.semantics.proofs.Scopes.{Covers, WellScoped, scoped-call, scoped-consp}
 use Rattle.heap.specs.declared.configuration.Configuration.{Configuration as InCells}
-use Rattle.heap.proofs.RunLaws.{Below, below-self}
+use Rattle.runs.proofs.RunLaws.{Below, below-self}
 use Rattle.linking.specs.Code.{link, linkAt}
 use Rattle.linking.specs.Linked.{placeIn, withName, ExpLinked, ExpsLinked, TermLinked, callLinked, sameLinked}
 use Rattle.linking.specs.Places.{envOf, withValue}
@@ -36,9 +36,9 @@ use Rattle.values.proofs.CallLeads.{found-linked}
 use Rattle.atoms.specs.Atoms.{sidesAt}
 use Rattle.atoms.proofs.AtomLaws.{sideOf}
 use Rattle.atoms.proofs.TakeLaws.{same-successors}
-use Rattle.pairs.specs.Looking.{testAt, LookLeft, lookAt}
-use Rattle.pairs.specs.declared.look.Tested.{Tested}
-use Rattle.pairs.specs.declared.look.Tested.the-variants.{Atom, Pair, Large}
+use Rattle.looking.specs.Looking.{testAt, LookLeft, lookAt}
+use Rattle.looking.specs.declared.look.Tested.{Tested}
+use Rattle.looking.specs.declared.look.Tested.the-variants.{Atom, Pair, Large}
 use Rattle.pairs.proofs.NameLaws.{typed-with-e, typed-with-a}
 use Rattle.pairs.proofs.LookLaws.{TestAt, test-at, Looked, atomAt, variableAt, pairAt, largeAt}
 use Rattle.pairs.proofs.BranchLaws.{stands-look}

@@ -13,8 +13,8 @@ use Rattle.expressions.specs.Expression.{Exp, nodes}
 use Rattle.sets.specs.Cells.{cells, CopyAnswer, copied}
 use Rattle.sets.specs.declared.fill.Filled.the-variants.{Done, Over}
 use Rattle.sets.proofs.CellLaws.{cells-nodes, copied-done}
-use Rattle.heap.specs.Runs.{cellsAt, run}
-use Rattle.heap.proofs.RunLaws.{Below}
+use Rattle.runs.specs.Runs.{cellsAt, run}
+use Rattle.runs.proofs.RunLaws.{Below}
 use Rattle.heap.proofs.HeapLaws.{Holds}
 use Rattle.heap.proofs.NodeLaws.{holds-nodes}
 use Rattle.forward.specs.Output.{cellPut, rangePut, OutLeft, outLeft, beside, onwardFrom}

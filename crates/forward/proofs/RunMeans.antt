@@ -22,7 +22,7 @@ use Rattle.semantics.proofs.Forward.{apply-embed}
 use Rattle.semantics.proofs.Scopes.{Covers, WellScoped, scoped-map}
 use Rattle.sets.specs.Cells.{cells}
 use Rattle.heap.specs.declared.configuration.Configuration.{Configuration as InCells}
-use Rattle.heap.proofs.RunLaws.{below-self}
+use Rattle.runs.proofs.RunLaws.{below-self}
 use Rattle.linking.specs.Linked.{TermLinked}
 use Rattle.linking.specs.Places.{envOf}
 use Rattle.values.proofs.ValueLaws.{Known}
@@ -33,8 +33,9 @@ use Rattle.tracing.specs.declared.ask.Asked.the-variants.{End}
 use Rattle.tracing.proofs.ShowLaws.{Accepted}
 use Rattle.forward.specs.Next.{endsAt}
 use Rattle.forward.specs.Turning.{finished, TurnLeft, turned}
-use Rattle.forward.specs.Running.{RanAnswer, ranAnswer, afterTurn, ranFrom, finishedRan, ranOn}
-use Rattle.forward.specs.declared.ran.Ran.the-variants.{Value as RanValue, Over as RanOver, NotWithin}
+use Rattle.running.specs.Answers.{RanAnswer, ranAnswer}
+use Rattle.forward.specs.Running.{afterTurn, ranFrom, finishedRan, ranOn}
+use Rattle.running.specs.declared.ran.Ran.the-variants.{Value as RanValue, Over as RanOver, NotWithin}
 use Rattle.forward.proofs.SourceLaws.{end-sources}
 use Rattle.forward.proofs.WayLaws.{at}
 use Rattle.forward.proofs.FinishLaws.{isResult, ends-is, over-is, finish-over, finish-value}

@@ -16,7 +16,7 @@ use Rattle.expressions.specs.Contraction.{CRPair}
 use Rattle.language.specs.Program.{Term, Param, pe, pa, Prog}
 use Rattle.semantics.specs.Configuration.{substOfEnv, state}
 use Rattle.heap.specs.declared.configuration.Configuration.{Configuration as InCells}
-use Rattle.heap.proofs.RunLaws.{Below}
+use Rattle.runs.proofs.RunLaws.{Below}
 use Rattle.heap.proofs.HeapLaws.{Holds, holds-below}
 use Rattle.heap.proofs.FrameLaws.{Held, held-kept}
 use Rattle.linking.specs.Code.{link, linkAt}
@@ -31,9 +31,9 @@ use Rattle.values.proofs.ArgumentLaws.{AllKnown, past-linked}
 use Rattle.values.proofs.RoomLaws.{value-outcome}
 use Rattle.values.proofs.RoomLaws as values
 use Rattle.values.proofs.StateLaws.{HoldsPair}
-use Rattle.pairs.specs.Looking.{testAt}
-use Rattle.pairs.specs.declared.look.Tested.{Tested}
-use Rattle.pairs.specs.declared.look.Tested.the-variants.{Atom, Pair, Large}
+use Rattle.looking.specs.Looking.{testAt}
+use Rattle.looking.specs.declared.look.Tested.{Tested}
+use Rattle.looking.specs.declared.look.Tested.the-variants.{Atom, Pair, Large}
 use Rattle.pairs.proofs.NameLaws.{place-most, typed-with-e, names-held, entries-are}
 use Rattle.pairs.proofs.LookLaws.{TestAt, test-from, names-from-is}
 use Rattle.tracing.specs.declared.ask.Asked.the-variants.{End, Call, Same, Test}

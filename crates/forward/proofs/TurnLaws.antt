@@ -35,7 +35,7 @@ use Rattle.tracing.specs.Asking.{AskLeft, askedAt, branchesAsked, takenAs}
 use Rattle.tracing.proofs.ShowLaws.{Accepted}
 use Rattle.forward.specs.Next.{nextPlace, endsAt}
 use Rattle.forward.specs.Turning.{usedAs, RoomLeft, roomedTo, roomed, finished, sizedLeft, advanced, TurnLeft, endedTurn, wentTurn, turnedBy, turnedAsked, turned}
-use Rattle.forward.specs.declared.ran.Ran.the-variants.{Value as RanValue, Over}
+use Rattle.running.specs.declared.ran.Ran.the-variants.{Value as RanValue, Over}
 use Rattle.forward.specs.declared.turn.Turn.the-variants.{On, Ended}
 use Rattle.forward.proofs.WayLaws.{at, Way, WayTo, way}
 use Rattle.forward.proofs.LandingLaws.{Landing, landing}

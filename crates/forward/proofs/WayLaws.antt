@@ -19,7 +19,7 @@ use Rattle.semantics.proofs.Forward.{forward}
 use Rattle.semantics.proofs.Scopes.{WellScoped, scoped-map}
 use Rattle.heap.specs.Moving.{Left}
 use Rattle.heap.specs.declared.configuration.Configuration.{Configuration as InCells}
-use Rattle.heap.proofs.RunLaws.{Below}
+use Rattle.runs.proofs.RunLaws.{Below}
 use Rattle.values.proofs.StateLaws.{Stands, Leads}
 use Rattle.initial.proofs.EmbedLaws.{runPair, run-nodes}
 use Rattle.tracing.specs.Asking.{AskLeft, askedAt, isCall, branchesAsked, takenAs}

@@ -8,10 +8,10 @@ use Rattle.linking.specs.Code.{linkAt}
 use Rattle.values.specs.Names.{namesFrom}
 use Rattle.values.specs.Values.{ValueLeft, valueLeft, valueAt}
 use Rattle.values.specs.declared.value.Valued.the-variants.{At, Over}
-use Rattle.pairs.specs.Looking.{testAt}
-use Rattle.pairs.specs.Taking.{namesAt}
-use Rattle.pairs.specs.declared.look.Tested.{Tested}
-use Rattle.pairs.specs.declared.look.Tested.the-variants.{Atom, Pair, Variable, Large}
+use Rattle.looking.specs.Looking.{testAt}
+use Rattle.looking.specs.Taking.{namesAt}
+use Rattle.looking.specs.declared.look.Tested.{Tested}
+use Rattle.looking.specs.declared.look.Tested.the-variants.{Atom, Pair, Variable, Large}
 use Rattle.tracing.specs.declared.ask.Asked.{Asked}
 use Rattle.tracing.specs.declared.ask.Asked.the-variants.{End, Call, Same, Test}
 use Rattle.forward.specs.declared.named.Binders.{Binders}

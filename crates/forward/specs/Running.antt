@@ -4,7 +4,6 @@ use mathlib.Core.Bool.{true, cond}
 use mathlib.Core.List.{List}
 use lib.Dec.{eqb}
 use lib.ListN.{replicate}
-use Rattle.texts.specs.ReadCells.{zeros}
 use Rattle.syntax.specs.declared.job_ends.JobEnds.{JobEnds}
 use Rattle.heap.specs.declared.configuration.Configuration.{Configuration}
 use Rattle.initial.specs.Beginning.{BegunLeft, mainBody, begunAt}
@@ -13,18 +12,10 @@ use Rattle.initial.specs.declared.begin.Begun.the-variants.{On as BegunOn, None
 use Rattle.tracing.specs.declared.ask.Asked.the-variants.{End}
 use Rattle.forward.specs.Next.{endsAt, overIn}
 use Rattle.forward.specs.Turning.{FinishLeft, finished, TurnLeft, turned}
-use Rattle.forward.specs.declared.ran.Ran.{Ran}
-use Rattle.forward.specs.declared.ran.Ran.the-variants.{Value, Over, NotWithin}
+use Rattle.running.specs.Answers.{RanAnswer, ranAnswer, settled}
+use Rattle.running.specs.declared.ran.Ran.the-variants.{Over, NotWithin}
 use Rattle.forward.specs.declared.turn.Turn.{Turn}
 use Rattle.forward.specs.declared.turn.Turn.the-variants.{On, Ended}
-
--- what a run comes to, and the answer storage
-pub record RanAnswer : Type 0 where
-  pub ran : Ran
-  pub answer : List ℕ
-
-abbrev pub ranAnswer : Ran → List ℕ → RanAnswer
-ranAnswer r d = record { ran = r; answer = d }
 
 -- on from a turn
 abbrev pub afterBy : (Configuration → List ℕ → List ℕ → List ℕ → List ℕ → RanAnswer) → Turn → List ℕ → List ℕ → List ℕ → List ℕ → RanAnswer
@@ -48,15 +39,6 @@ ranOn code c steps h f q d =
     cond (overIn c f) (ranAnswer Over d)
     (cond (eqb steps 0) (ranAnswer NotWithin d)
     (cond (endsAt code (c .place)) (finishedRan (finished code c End (c .place) 1 h f d)) (ranFrom code (steps - 1) 1 c h f q d)))
-
--- "It stops only with 21 or `not within N`, and then its answer storage is zero"
-abbrev pub settledRan : Ran → List ℕ → RanAnswer
-settledRan (Value s n) d = ranAnswer (Value s n) d
-settledRan Over d = ranAnswer Over (zeros d)
-settledRan NotWithin d = ranAnswer NotWithin d
-
-abbrev pub settled : RanAnswer → RanAnswer
-settled w = settledRan (w .ran) (w .answer)
 
 abbrev pub runBegun : List ℕ → Begun → ℕ → List ℕ → List ℕ → List ℕ → List ℕ → RanAnswer
 runBegun code (BegunOn c) steps h f q d = ranOn code c steps h f q d

@@ -3,8 +3,6 @@ use Prim.Native.Nat.{ℕ, _-_, min}
 use mathlib.Core.Bool.{Bool, cond}
 use mathlib.Core.List.{List}
 use lib.Dec.{ltb}
-use Rattle.sets.specs.declared.fill.Filled.{Filled}
-use Rattle.sets.specs.declared.fill.Filled.the-variants.{Done, Over as FilledOver}
 use Rattle.heap.specs.Compacting.{Compaction, compacted}
 use Rattle.heap.specs.Entries.{nodesFrom}
 use Rattle.heap.specs.Moving.{Left}
@@ -15,8 +13,9 @@ use Rattle.tracing.specs.Asking.{AskLeft, askedAt, branchesAsked, takenAs}
 use Rattle.tracing.specs.declared.ask.Asked.{Asked}
 use Rattle.forward.specs.Next.{nextPlace, endsAt, overIn}
 use Rattle.forward.specs.Output.{OutLeft, outputPut}
-use Rattle.forward.specs.declared.ran.Ran.{Ran}
-use Rattle.forward.specs.declared.ran.Ran.the-variants.{Value, Over}
+use Rattle.running.specs.Answers.{ranBy}
+use Rattle.running.specs.declared.ran.Ran.{Ran}
+use Rattle.running.specs.declared.ran.Ran.the-variants.{Over}
 use Rattle.forward.specs.declared.turn.Turn.{Turn}
 use Rattle.forward.specs.declared.turn.Turn.the-variants.{On, Ended}
 
@@ -41,10 +40,6 @@ roomed c h f = cond (ltb 40959 (c .used)) (roomedTo c (compacted (c .entries) 0 
 -- "at an end of the inputs and the output": how many nodes an output may have
 abbrev pub outputRoom : Configuration → List ℕ → ℕ
 outputRoom c f = 4096 - min (nodesFrom (min (c .inputs) 4120) 0 f) 4096
-
-abbrev pub ranBy : ℕ → Filled → Ran
-ranBy steps (Done n) = Value steps n
-ranBy steps FilledOver = Over
 
 -- what a run comes to, and what is left in heap and answer storage
 pub record FinishLeft : Type 0 where

@@ -1,27 +1,14 @@
 // A run on the job's inputs: "The runner reads a whole job text, checks it, and uses only the inputs and N."
-use crate::ran::Ran;
 use crate::run::run_on;
 use initial::begin::Begun;
 use initial::begin::begin;
 use initial::begin::main_body;
+use running::ran::Ran;
+use running::ran::settle;
 use syntax::job_ends::JobEnds;
-use texts::clear::clear;
 ghost use mathlib.Core.Path.{_≡_};
-ghost use Rattle.forward.specs.Running.{ranAnswer, settledRan, runBegun, runInputs};
-
-// "It stops only with 21 or `not within N`, and then its answer storage is zero": an output that was over has been written in part.
-fn settle(ran: Ran, answer: &mut [u16]) -> Ran
-    ensures { λ r. ⌜ ranAnswer r (now (answer .exit)) ≡ settledRan ran (now (answer .entry)) ⌝ }
-{
-    match ran {
-        Ran::Value { steps, length } => Ran::Value { steps, length },
-        Ran::Over => {
-            clear(answer);
-            Ran::Over
-        }
-        Ran::NotWithin => Ran::NotWithin,
-    }
-}
+ghost use Rattle.running.specs.Answers.{ranAnswer};
+ghost use Rattle.forward.specs.Running.{runBegun, runInputs};
 
 // From what the job begins as, on.
 fn run_begun(

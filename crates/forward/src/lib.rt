@@ -4,6 +4,5 @@ pub mod inputs;
 mod named;
 mod next;
 mod output;
-pub mod ran;
 mod run;
 mod turn;

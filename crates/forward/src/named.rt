@@ -2,7 +2,7 @@
 // of an end may be of any size, so that it is never made. A name's value is worked out where the output has it, in the environment before.
 use heap::configuration::Configuration;
 use linking::code::link_at;
-use pairs::look::Tested;
+use looking::look::Tested;
 use sets::cell;
 use tracing::ask::Asked;
 use values::names::names_from;
@@ -11,7 +11,7 @@ use values::value::value;
 ghost use mathlib.Core.Path.{_≡_};
 ghost use Prim.Native.Nat.{_≤_};
 ghost use Rattle.values.specs.Values.{valueLeft};
-ghost use Rattle.pairs.specs.Looking.{testAt};
+ghost use Rattle.looking.specs.Looking.{testAt};
 ghost use Rattle.forward.specs.Naming.{argumentFrom, bindersOf, ownAt, argumentNamed, partIndex, testedNamed, namedAt};
 
 // The index of an argument, so many behind the one at i.

@@ -1,15 +1,17 @@
 // A run: "One transition is one call or one decided condition, and a run's steps are its transitions".
 use crate::next::ends_at;
 use crate::next::is_over;
-use crate::ran::Ran;
 use crate::turn::Turn;
 use crate::turn::finish;
 use crate::turn::take_turn;
 use heap::configuration::Configuration;
+use running::ran::Ran;
+use running::ran::is_within;
 use tracing::ask::Asked;
 ghost use mathlib.Core.Path.{_≡_};
 ghost use Prim.Native.Nat.{_-_};
-ghost use Rattle.forward.specs.Running.{ranAnswer, ranFrom, ranOn};
+ghost use Rattle.running.specs.Answers.{ranAnswer};
+ghost use Rattle.forward.specs.Running.{ranFrom, ranOn};
 
 // From a state that is no end, one step from the start, on.
 fn run_from(
@@ -25,7 +27,7 @@ fn run_from(
 {
     let mut d = c;
     let mut k: usize = 1;
-    while k < steps {
+    while is_within(k, steps) {
         k += 1;
         let t = take_turn(code, heap, frame, q, d, k, answer);
         match t {

@@ -3,20 +3,20 @@ use crate::next::ends_at;
 use crate::next::is_over;
 use crate::next::next_place;
 use crate::output::push_output;
-use crate::ran::Ran;
 use heap::compact::compact;
 use heap::configuration::Configuration;
 use heap::configuration::Moved;
 use heap::entry;
+use running::ran::Ran;
+use running::ran::ran_by;
 use sets::cell;
-use sets::fill::Filled;
 use tracing::ask::Asked;
 use tracing::ask::ask;
 use tracing::ask::branches;
 use tracing::take::take;
 ghost use mathlib.Core.Path.{_≡_};
 ghost use mathlib.Core.Bool.{Bool};
-ghost use Rattle.forward.specs.Turning.{usedAs, roomLeft, roomed, outputRoom, ranBy, finishLeft, finished, turnBy, turnLeft, advanced, turned};
+ghost use Rattle.forward.specs.Turning.{usedAs, roomLeft, roomed, outputRoom, finishLeft, finished, turnBy, turnLeft, advanced, turned};
 
 // What a transition leads to: the next state, or what the run comes to.
 pub(crate) enum Turn {
@@ -54,18 +54,6 @@ fn output_room(frame: &[u16; 12360], c: Configuration) -> usize
     ensures { λ r. ⌜ r ≡ outputRoom c (now (frame .entry)) ⌝ }
 {
     4096 - cell::least(entry::nodes(frame, c.inputs), 4096)
-}
-
-fn ran_by(steps: usize, w: Filled) -> Ran
-    ensures { λ r. ⌜ r ≡ ranBy steps w ⌝ }
-{
-    match w {
-        Filled::Done(n) => Ran::Value {
-            steps: steps,
-            length: n,
-        },
-        Filled::Over => Ran::Over,
-    }
 }
 
 // The end whose term stands at i, so many steps from the start.

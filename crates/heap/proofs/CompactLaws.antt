@@ -11,11 +11,11 @@ use Rattle.expressions.specs.Expression.{Exp, nodes, nodesAll}
 use Rattle.sets.specs.Cells.{cells}
 use Rattle.sets.specs.Fill.{FillAnswer}
 use Rattle.sets.specs.declared.fill.Filled.the-variants.{Done}
-use Rattle.heap.specs.Runs.{cellsAt, run, appended}
+use Rattle.runs.specs.Runs.{cellsAt, run, appended}
 use Rattle.heap.specs.Entries.{entry, entryFrom, entryTo}
 use Rattle.heap.specs.Contracted.{Stores, stores, onwardFrom}
 use Rattle.heap.specs.Compacting.{relocatedEntry, relocatedFrom, cellsMoved, Compaction, movedStores, compacted}
-use Rattle.heap.proofs.RunLaws.{Below, below-self, below-sets, length-cellsAt}
+use Rattle.runs.proofs.RunLaws.{Below, below-self, below-sets, length-cellsAt}
 use Rattle.heap.proofs.HeapLaws.{Holds, holds-below, sets-cells, Grown, append-means}
 use Rattle.heap.proofs.FrameLaws.{Behind, entry-length, entry-before, entry-behind, entry-from, entry-to, held-kept, Held, none, more}
 

@@ -9,7 +9,7 @@ use borrow.Author.Tests.{lt-ltb, le-ltb}
 use Rattle.sets.specs.Fill.{FillAnswer, fillAnswer}
 use Rattle.sets.specs.declared.fill.Filled.{Filled}
 use Rattle.sets.specs.declared.fill.Filled.the-variants.{Done, Over}
-use Rattle.heap.specs.Runs.{standsInRun, appendedFilled}
+use Rattle.runs.specs.Runs.{standsInRun, appendedFilled}
 use Rattle.heap.specs.Entries.{entryFrom, entryTo}
 use Rattle.heap.specs.Contracted.{Stores, stores, enteredFrame, onwardFrom, contractedEntry, contractedFrom}
 

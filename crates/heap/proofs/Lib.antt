@@ -1,4 +1,3 @@
-pub mod RunLaws
 pub mod ContractLaws
 pub mod HeapLaws
 pub mod FrameLaws

@@ -9,26 +9,9 @@ use lib.Seq.{drop-cons, take-at, drop-at}
 use Rattle.expressions.specs.Expression.{Exp, pair, nodes}
 use Rattle.sets.specs.Cells.{cells, treeEnd}
 use Rattle.sets.proofs.CellLaws.{Stands, stands-end, cells-nodes}
-use Rattle.heap.specs.Runs.{cellsAt, run}
-use Rattle.heap.proofs.RunLaws.{run-cons, length-cellsAt}
+use Rattle.runs.specs.Runs.{cellsAt, run}
+use Rattle.runs.proofs.RunLaws.{run-cons, length-cellsAt, run-drop, cells-split}
 use Rattle.heap.proofs.HeapLaws.{Holds}
-
--- a run is a part of the list
-run-drop : (n i : ℕ) (h : List ℕ) → i + n ≤ length h → drop i h ≡ cellsAt n i h ++ drop (i + n) h
-unfolding cellsAt
-run-drop zero i h l = let e : i + 0 ≡ i = omega arith in rw e
-run-drop (suc n) i h l =
-    let e : i + suc n ≡ i + 1 + n = omega arith in
-    let r : drop (i + 1) h ≡ cellsAt n (i + 1) h ++ drop (i + 1 + n) h = run-drop n (i + 1) h (omega arith) in
-    drop-cons h i 0 (omega arith) ∙ ap (λ (k : List ℕ). getD h i 0 ∷ k) (ap (λ (k : ℕ). drop k h) (inv (add-one i)) ∙ r ∙ ap (λ (k : ℕ). cellsAt n (i + 1) h ++ drop k h) (inv e))
-
-cells-split : (m n i : ℕ) (h : List ℕ) → cellsAt (m + n) i h ≡ cellsAt m i h ++ cellsAt n (i + m) h
-unfolding cellsAt
-cells-split zero n i h = let e : i + 0 ≡ i = omega arith in let z : 0 + n ≡ n = omega arith in rw (e, z)
-cells-split (suc m) n i h =
-    let e : i + suc m ≡ i + 1 + m = omega arith in
-    let s : suc m + n ≡ suc (m + n) = omega arith in
-    rw (s, e) (ap (λ (k : List ℕ). getD h i 0 ∷ k) (cells-split m n (i + 1) h))
 
 tails : {a b : ℕ} {r s : List ℕ} → a ∷ r ≡ b ∷ s → r ≡ s
 tails e = cc

@@ -8,7 +8,7 @@ use lib.Seq.{sets}
 use Rattle.sets.specs.Fill.{FillAnswer, fillAnswer}
 use Rattle.sets.specs.declared.fill.Filled.{Filled}
 use Rattle.sets.specs.declared.fill.Filled.the-variants.{Done, Over}
-use Rattle.heap.specs.Runs.{run, appended}
+use Rattle.runs.specs.Runs.{run, appended}
 use Rattle.heap.specs.Entries.{entry, entryFrom, entryTo}
 use Rattle.heap.specs.Contracted.{Stores, stores, beside, onwardFrom}
 

@@ -5,7 +5,7 @@ use mathlib.Core.List.{List}
 use lib.Dec.{leb, ltb}
 use lib.ListN.{getD, set}
 use lib.Seq.{sets}
-use Rattle.heap.specs.Runs.{cellsAt}
+use Rattle.runs.specs.Runs.{cellsAt}
 use Rattle.heap.specs.declared.entry.Pushed.{Pushed}
 use Rattle.heap.specs.declared.entry.Pushed.the-variants.{Done, Full}
 

@@ -11,7 +11,7 @@ use Rattle.sets.specs.declared.restriction.Restricted.{Restricted}
 use Rattle.sets.specs.declared.restriction.Restricted.the-variants.{Kept, Contradiction as Contradictory, Full}
 use Rattle.sets.specs.declared.contraction.Contraction.{Contraction as Coded}
 use Rattle.sets.specs.declared.contraction.Contraction.the-variants.{Identity, Contradiction, Bind, BindPair, NonEqual}
-use Rattle.heap.specs.Runs.{appendedPair}
+use Rattle.runs.specs.Runs.{appendedPair}
 use Rattle.heap.specs.Contracted.{Stores, stores, contractedEntries}
 use Rattle.heap.specs.declared.configuration.Configuration.{Configuration}
 use Rattle.heap.specs.declared.configuration.Moved.{Moved}

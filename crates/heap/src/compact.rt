@@ -1,7 +1,7 @@
 // Compaction: the values in use put together, one behind the other from a place on. No spare storage: they are written behind what is used, and then
 // all moved down.
 use crate::entry;
-use crate::run;
+use runs::run;
 use sets::cell;
 use sets::fill::Filled;
 ghost use mathlib.Core.Path.{_≡_};
@@ -9,13 +9,6 @@ ghost use Prim.Native.Nat.{_-_, _<_, _≤_};
 ghost use Rattle.sets.specs.Fill.{fillAnswer};
 ghost use Rattle.heap.specs.Contracted.{stores};
 ghost use Rattle.heap.specs.Compacting.{relocatedFrame, relocatedEntry, relocatedEntries, cellsMoved, compaction, compacted};
-
-// The difference of two numbers, and 0 below it.
-fn less(a: usize, b: usize) -> usize
-    ensures { λ r. ⌜ r ≡ a - b ⌝ }
-{
-    if a < b { 0 } else { a - b }
-}
 
 // The entry i with the range from `used` to the answer, `down` cells lower: where it will stand.
 fn relocated(frame: &mut [u16; 12360], i: usize, down: usize, used: usize, w: Filled) -> Filled
@@ -25,7 +18,7 @@ fn relocated(frame: &mut [u16; 12360], i: usize, down: usize, used: usize, w: Fi
     match w {
         Filled::Done(k) => {
             let key = frame[3 * i];
-            entry::put_entry(frame, i, key, less(used, down), less(k, down));
+            entry::put_entry(frame, i, key, cell::less(used, down), cell::less(k, down));
             Filled::Done(k)
         }
         Filled::Over => Filled::Over,
@@ -88,7 +81,7 @@ fn move_cells(heap: &mut [u16; 65535], from: usize, to: usize, at: usize)
     ensures { λ _. ⌜ now (heap .exit) ≡ cellsMoved from to at (now (heap .entry)) ⌝ }
 {
     let end = cell::least(to, run::SIZE);
-    let size = less(end, from);
+    let size = cell::less(end, from);
     let mut i: usize = 0;
     while i < size {
         heap[at + i] = heap[from + i];
@@ -115,7 +108,7 @@ pub fn compact(
     match w {
         Filled::Done(k) => {
             move_cells(heap, used, k, floor);
-            less(k, down)
+            cell::less(k, down)
         }
         Filled::Over => used,
     }

@@ -1,6 +1,6 @@
 // A contraction of entries: an entry in whose range the variable stands gets a new range, its filled copy.
 use crate::entry;
-use crate::run;
+use runs::run;
 use sets::cell;
 use sets::fill::Filled;
 ghost use mathlib.Core.Path.{_≡_};

@@ -4,4 +4,3 @@ pub mod compact;
 pub mod configuration;
 pub mod contract;
 pub mod entry;
-pub mod run;

@@ -32,10 +32,10 @@ use Rattle.linking.specs.Places.{envOf}
 use Rattle.values.proofs.ValueLaws.{Typed, noneTyped, eTyped, aTyped}
 use Rattle.values.proofs.StateLaws.{trees, pair-nodes, nodes-length, Stands}
 use Rattle.values.proofs.CallLeads.{found-linked}
-use Rattle.initial.specs.Fresh.{firstFreshCells}
-use Rattle.initial.specs.Laying.{jobLaid, partsOf, sidesTaken}
+use Rattle.layout.specs.Fresh.{firstFreshCells}
+use Rattle.layout.specs.Laying.{jobLaid, partsOf, sidesTaken}
 use Rattle.initial.specs.Beginning.{EnterLeft, begunEntered, BegunLeft, besides, sidesBegun, begunAt, jobEntered}
-use Rattle.initial.specs.declared.job.Parts.{Parts}
+use Rattle.layout.specs.declared.job.Parts.{Parts}
 use Rattle.initial.specs.declared.begin.Begun.the-variants.{On, None, Over}
 use Rattle.initial.proofs.EnterLaws.{JobOutcome, EntersJob, job-enters}
 use Rattle.initial.proofs.JobLaws.{inputCells, sideCells, ioSize, jobHeap, laidOf, laid-whole, laid-inputs, laid-output, laid-fresh, sides-mean, sides-size}

@@ -27,10 +27,10 @@ use Rattle.syntax.specs.Standing.{ExpAt, symbolAt, eAt, aAt, consAt, ExpsAt, Si
 use Rattle.syntax.specs.Standing as at
 use Rattle.syntax.proofs.JobLaws.{Fixed}
 use Rattle.syntax.proofs.StoredCheck.{key-of, kind-of, num-of}
-use Rattle.heap.specs.Runs.{written}
-use Rattle.heap.proofs.RunLaws.{written-done, sets-append}
+use Rattle.runs.specs.Runs.{written}
+use Rattle.runs.proofs.RunLaws.{written-done, sets-append}
 use Rattle.linking.specs.Linking.{keyOf, kindOf}
-use Rattle.initial.specs.Data.{datumCell, datumWritten, dataWritten}
+use Rattle.layout.specs.Data.{datumCell, datumWritten, dataWritten}
 
 -- the cells that the token i gives
 abbrev pub datumCells : List ℕ → List ℕ → ℕ → List ℕ

@@ -8,10 +8,10 @@ use native.Mathlib.Decide.{decLe}
 use lib.ListN.{length}
 use Rattle.expressions.specs.Expression.{Exp}
 use Rattle.sets.specs.Cells.{cellsAll}
-use Rattle.heap.specs.Runs.{run}
+use Rattle.runs.specs.Runs.{run}
 use Rattle.heap.specs.Entries.{PushAnswer, entry, pushed}
 use Rattle.heap.specs.declared.entry.Pushed.the-variants.{Done, Full}
-use Rattle.heap.proofs.RunLaws.{below-self}
+use Rattle.runs.proofs.RunLaws.{below-self}
 use Rattle.heap.proofs.HeapLaws.{Holds}
 use Rattle.heap.proofs.FrameLaws.{Held, held-front, entry-length}
 use Rattle.heap.proofs.FrameLaws as frame

@@ -18,15 +18,15 @@ use Rattle.sets.specs.declared.fill.Filled.the-variants.{Done}
 use Rattle.sets.proofs.CellLaws.{restrictionCells-nodes}
 use Rattle.sets.proofs.RestrictionLaws.{Answers, simplifyCells-means}
 use Rattle.syntax.specs.declared.job_ends.JobEnds.{JobEnds}
-use Rattle.heap.specs.Runs.{cellsAt, run}
-use Rattle.heap.proofs.RunLaws.{written-done, sets-append}
+use Rattle.runs.specs.Runs.{cellsAt, run}
+use Rattle.runs.proofs.RunLaws.{written-done, sets-append, run-drop}
 use Rattle.heap.proofs.HeapLaws.{Holds, sets-cells}
-use Rattle.initial.specs.Fresh.{firstFreshCells}
-use Rattle.initial.specs.Laying.{partsOf, LaidLeft, laidLeft, outputLaid, sidesLaid, endsLaid, jobLaid, sidesTaken}
-use Rattle.initial.specs.declared.job.Laid.the-variants.{Done as Lies}
+use Rattle.layout.specs.Fresh.{firstFreshCells}
+use Rattle.layout.specs.Laying.{partsOf, LaidLeft, laidLeft, outputLaid, sidesLaid, endsLaid, jobLaid, sidesTaken}
+use Rattle.layout.specs.declared.job.Laid.the-variants.{Done as Lies}
 use Rattle.initial.proofs.DataLaws.{datumCells, Run, run-laid}
 use Rattle.initial.proofs.FreshLaws.{fresh-means}
-use Rattle.initial.proofs.TreeLaws.{run-drop, run-parts}
+use Rattle.initial.proofs.TreeLaws.{run-parts}
 
 -- The parts of a job in its tokens: what they give are the cells of the class P.
 pub record JobHere (jmarks jnums : List ℕ) (e : JobEnds) (P : IOClass) : Type 0 where

@@ -11,32 +11,15 @@ use lib.Seq.{drop-cons, take-at, drop-at}
 use Rattle.expressions.specs.Expression.{Exp, atm, evar, pair, nodes}
 use Rattle.sets.specs.Cells.{cells, cellsAll, treeEnd}
 use Rattle.sets.proofs.CellLaws.{stands-end, cells-nodes}
-use Rattle.heap.specs.Runs.{cellsAt, run}
+use Rattle.runs.specs.Runs.{cellsAt, run}
 use Rattle.heap.specs.Entries.{PushAnswer, entry, entryFrom, entryTo, pushed}
 use Rattle.heap.specs.declared.entry.Pushed.the-variants.{Done, Full}
-use Rattle.heap.proofs.RunLaws.{Below, below-self, length-cellsAt}
+use Rattle.runs.proofs.RunLaws.{Below, below-self, length-cellsAt, run-drop, cells-split}
 use Rattle.heap.proofs.HeapLaws.{Holds}
 use Rattle.heap.proofs.FrameLaws.{Held, entry-length, entry-before, entry-from, entry-to}
 use Rattle.heap.proofs.FrameLaws as frame
 use Rattle.initial.specs.Trees.{onwardPush, treesEntered}
 use Rattle.initial.proofs.InitialTurns.{trees-end, trees-turn, pushed-full, pushed-on}
-
--- a run is a part of the list
-pub run-drop : (n i : ℕ) (h : List ℕ) → i + n ≤ length h → drop i h ≡ cellsAt n i h ++ drop (i + n) h
-unfolding cellsAt
-run-drop zero i h l = let e : i + 0 ≡ i = omega arith in rw e
-run-drop (suc n) i h l =
-    let e : i + suc n ≡ i + 1 + n = omega arith in
-    let r : drop (i + 1) h ≡ cellsAt n (i + 1) h ++ drop (i + 1 + n) h = run-drop n (i + 1) h (omega arith) in
-    drop-cons h i 0 (omega arith) ∙ ap (λ (k : List ℕ). getD h i 0 ∷ k) (ap (λ (k : ℕ). drop k h) (inv (add-one i)) ∙ r ∙ ap (λ (k : ℕ). cellsAt n (i + 1) h ++ drop k h) (inv e))
-
-cells-split : (m n i : ℕ) (h : List ℕ) → cellsAt (m + n) i h ≡ cellsAt m i h ++ cellsAt n (i + m) h
-unfolding cellsAt
-cells-split zero n i h = let e : i + 0 ≡ i = omega arith in let z : 0 + n ≡ n = omega arith in rw (e, z)
-cells-split (suc m) n i h =
-    let e : i + suc m ≡ i + 1 + m = omega arith in
-    let s : suc m + n ≡ suc (m + n) = omega arith in
-    rw (s, e) (ap (λ (k : List ℕ). getD h i 0 ∷ k) (cells-split m n (i + 1) h))
 
 -- the two parts of a run
 pub run-parts : (m n i : ℕ) (h u v : List ℕ) → cellsAt (m + n) i h ≡ u ++ v → length u ≡ m → (cellsAt m i h ≡ u) × (cellsAt n (i + m) h ≡ v)

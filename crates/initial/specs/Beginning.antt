@@ -12,11 +12,11 @@ use Rattle.heap.specs.declared.entry.Pushed.{Pushed}
 use Rattle.heap.specs.declared.entry.Pushed.the-variants.{Done, Full}
 use Rattle.linking.specs.Linking.{on, closingAt}
 use Rattle.initial.specs.Trees.{treesEntered}
-use Rattle.initial.specs.Fresh.{firstFreshCells}
-use Rattle.initial.specs.Laying.{LaidLeft, jobLaid, sidesTaken}
-use Rattle.initial.specs.declared.job.Parts.{Parts}
-use Rattle.initial.specs.declared.job.Laid.{Laid}
-use Rattle.initial.specs.declared.job.Laid.the-variants.{Done as Lies, Over as LaidOver}
+use Rattle.layout.specs.Fresh.{firstFreshCells}
+use Rattle.layout.specs.Laying.{LaidLeft, jobLaid, sidesTaken}
+use Rattle.layout.specs.declared.job.Parts.{Parts}
+use Rattle.layout.specs.declared.job.Laid.{Laid}
+use Rattle.layout.specs.declared.job.Laid.the-variants.{Done as Lies, Over as LaidOver}
 use Rattle.initial.specs.declared.begin.Entered.{Entered}
 use Rattle.initial.specs.declared.begin.Entered.the-variants.{Done as In, Full as NotIn}
 use Rattle.initial.specs.declared.begin.Begun.{Begun}

@@ -1,5 +1,2 @@
-pub mod Data
 pub mod Trees
-pub mod Fresh
-pub mod Laying
 pub mod Beginning

@@ -1,15 +1,15 @@
 // "The start state is the call of main on the inputs." Its term stands in no text, so that what is made here is its successor: main's body, its
 // parameters bound to the inputs.
-use crate::fresh::first_fresh;
-use crate::job::Laid;
-use crate::job::Parts;
-use crate::job::lay_job;
-use crate::job::take_sides;
 use crate::trees::enter_trees;
 use heap::configuration::Configuration;
 use heap::entry;
 use heap::entry::Pushed;
 use heap::entry::push_entry;
+use layout::fresh::first_fresh;
+use layout::job::Laid;
+use layout::job::Parts;
+use layout::job::lay_job;
+use layout::job::take_sides;
 use linking::terms::closing;
 use sets::cell;
 use sets::restriction::Restricted;

@@ -2,7 +2,4 @@
 // the job's trees laid out in the heap, an entry for each, and the inputs' once more as the values of main's parameters. What the functions come
 // to is defined in specs/, what that means in proofs/BeginLaws.antt, BeginTexts.antt (a walk) and RunBegins.antt (a run).
 pub mod begin;
-mod datum;
-mod fresh;
-pub mod job;
 mod trees;

@@ -11,3 +11,4 @@ pub mod TableMeaning
 pub mod TokenMeaning
 pub mod LexedStep
 pub mod CutLengths
+pub mod ChainLaws

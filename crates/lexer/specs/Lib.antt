@@ -3,3 +3,4 @@ pub mod Cutting
 pub mod Judged
 pub mod Table
 pub mod Lexed
+pub mod Chains

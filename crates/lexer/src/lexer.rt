@@ -10,12 +10,16 @@ use crate::kinds::key_of;
 use crate::kinds::kind_of;
 use crate::table::enter;
 use crate::table::find;
+use crate::table::find_linked;
+use crate::table::link;
+use crate::table::link_all;
 use crate::words::value;
 ghost use mathlib.Core.Path.{_≡_};
 ghost use lib.ListN.{set};
 ghost use lib.Dec.{eqb};
 ghost use Prim.Native.Nat.{_%_};
 ghost use mathlib.Core.Bool.{_&&_, not};
+ghost use Rattle.lexer.specs.Chains.{Linked, linkedIf};
 ghost use Rattle.lexer.specs.Lexed.{markCell, numberAt, overAt, shutAt, countOf, placeOf, counted, enteredIf, shifted, tokenFrom, cutFrom, starting};
 
 // A token in cells; whether it is a new symbol, or a new word that is none; and whether no reader passes it.
@@ -28,6 +32,15 @@ pub struct Token {
     pub symbol: bool,
     pub name: bool,
     pub shut: bool,
+}
+
+// Where the chains of the symbols begin, behind those of the other words: 256 buckets and 4,097 entries. They have 256 buckets and 1,025 entries.
+const SYMBOLS_FROM: u16 = 4353;
+
+// How many symbols are known, and how many other words.
+pub struct Counts {
+    pub found: u16,
+    pub known: u16,
 }
 
 // How many tokens are stored, and how many symbols the table has then.
@@ -119,23 +132,37 @@ fn count_of(kind: u16, found: u16, known: u16) -> u16
     known
 }
 
+// The word's place in its table. A text has at most 1,024 symbols; the chains have room for so many.
 fn place_of(
     first: &[u8],
     text: &[u8],
     symbols: &[u16],
-    found: u16,
     names: &[u16],
-    known: u16,
+    chains: &[u16],
+    counts: Counts,
     kind: u16,
     hash: u16,
     word: &[u8],
 ) -> u16
-    ensures { λ r. ⌜ r ≡ placeOf (now (first .entry)) (now (text .entry)) (now (symbols .entry)) found (now (names .entry)) known kind hash (now (word .entry)) ⌝ }
+    requires { ⌜ Linked (now symbols) (counts .found) (now names) (counts .known) (now chains) ⌝ }
+    ensures { λ r. ⌜ r ≡ placeOf (now (first .entry)) (now (text .entry)) (now (symbols .entry)) (counts .found) (now (names .entry)) (counts .known) kind hash (now (word .entry)) ⌝ }
 {
     if kind == 0 {
-        return find(first, text, symbols, found, hash, word);
+        if counts.found <= 1024 {
+            return find_linked(
+                first,
+                text,
+                symbols,
+                chains,
+                SYMBOLS_FROM,
+                counts.found,
+                hash,
+                word,
+            );
+        }
+        return find(first, text, symbols, counts.found, hash, word);
     }
-    find(text, text, names, known, hash, word)
+    find_linked(text, text, names, chains, 0, counts.known, hash, word)
 }
 
 fn both(a: bool, b: bool) -> bool
@@ -197,19 +224,29 @@ fn enter_if(table: &mut [u16], yes: bool, k: u16, hash: u16, offset: u16)
     }
 }
 
+// The new entry of the table goes in its chain, if it is so.
+fn link_if(table: &[u16], yes: bool, k: u16, base: u16, chains: &mut [u16])
+    ensures { λ _. ⌜ now (chains .exit) ≡ linkedIf base yes (now (table .entry)) k (now (chains .entry)) ⌝ }
+{
+    if yes {
+        link(table, k, base, chains);
+    }
+}
+
 // The token number i, which is the first from `from` on. `first` is the text of the symbols that stood before, or `text` itself.
 fn token_from(
     job: bool,
     first: &[u8],
     text: &[u8],
     symbols: &[u16],
-    found: u16,
     names: &[u16],
-    known: u16,
+    chains: &[u16],
+    counts: Counts,
     i: usize,
     from: usize,
 ) -> Token
-    ensures { λ r. ⌜ r ≡ tokenFrom job (now (first .entry)) (now (text .entry)) (now (symbols .entry)) found (now (names .entry)) known i from ⌝ }
+    requires { ⌜ Linked (now symbols) (counts .found) (now names) (counts .known) (now chains) ⌝ }
+    ensures { λ r. ⌜ r ≡ tokenFrom job (now (first .entry)) (now (text .entry)) (now (symbols .entry)) (counts .found) (now (names .entry)) (counts .known) i from ⌝ }
 {
     let at = word_start(text, from);
     let next = piece_end(text, at);
@@ -218,10 +255,20 @@ fn token_from(
     let kind = kind_of(word);
     let fit = fit_of(job, kind, word);
     let hash = hash_of(word);
-    let place = place_of(first, text, symbols, found, names, known, kind, hash, word);
+    let place = place_of(
+        first,
+        text,
+        symbols,
+        names,
+        chains,
+        counts,
+        kind,
+        hash,
+        word,
+    );
     let num = number(job, kind, fit, place, word);
     let over = over_at(i, kind, num);
-    let new = equal(place, count_of(kind, found, known));
+    let new = equal(place, count_of(kind, counts.found, counts.known));
     let is_symbol = equal(kind, 0);
     Token {
         mark: mark_of(key, kind, fit, over),
@@ -262,8 +309,11 @@ pub fn cut_tokens(
     let mut known: u16 = 0;
     let mut from: usize = 0;
     let mut i: usize = 0;
+    let mut chains: [u16; 5634] = [0; 5634];
+    link_all(symbols, before, SYMBOLS_FROM, &mut chains);
     while i < 4097 {
-        let t = token_from(job, first, text, symbols, found, names, known, i, from);
+        let counts = Counts { found, known };
+        let t = token_from(job, first, text, symbols, names, &chains, counts, i, from);
         store(marks, nums, ats, i, t);
         if t.shut {
             return Cut {
@@ -273,6 +323,8 @@ pub fn cut_tokens(
         }
         enter_if(symbols, t.symbol, found, t.hash, shifted_by(job, t.at));
         enter_if(names, t.name, known, t.hash, t.at);
+        link_if(symbols, t.symbol, found, SYMBOLS_FROM, &mut chains);
+        link_if(names, t.name, known, 0, &mut chains);
         found = counted_if(t.symbol, found);
         known = counted_if(t.name, known);
         from = t.next;

@@ -8,9 +8,10 @@ use crate::words::begins;
 use crate::words::same;
 ghost use mathlib.Core.Path.{_≡_};
 ghost use lib.ListN.{set};
-ghost use Prim.Native.Nat.{_+_, _*_};
+ghost use Prim.Native.Nat.{_+_, _*_, _%_};
 ghost use Rattle.language.specs.Words.{same as sameWord};
 ghost use Rattle.lexer.specs.Cutting.{wordAt};
+ghost use Rattle.lexer.specs.Chains.{Chained, linked, linkedAll};
 ghost use Rattle.lexer.specs.Table.{wordIn, entryIs, findAt, entered};
 
 // The word that begins at `i`.
@@ -72,6 +73,64 @@ pub(crate) fn find(
         k += 1;
     }
     k
+}
+
+// The bucket of a hash.
+fn bucket(hash: u16) -> usize
+    ensures { λ r. ⌜ r ≡ hash % 256 ⌝ }
+{
+    (hash % 256) as usize
+}
+
+// As `find`, by the chain of the word's bucket: entries of other buckets have other hashes. The chain goes from the newest entry to the oldest, so that
+// the last that is the word is the first of the table. The chains stand from `base` on.
+pub(crate) fn find_linked(
+    first: &[u8],
+    second: &[u8],
+    table: &[u16],
+    chains: &[u16],
+    base: u16,
+    count: u16,
+    hash: u16,
+    word: &[u8],
+) -> u16
+    requires { ⌜ Chained base (now table) count (now chains) ⌝ }
+    ensures { λ r. ⌜ r ≡ findAt (now (first .entry)) (now (second .entry)) (now (table .entry)) hash (now (word .entry)) count 0 ⌝ }
+{
+    let mut found = count;
+    let mut k = cell(chains, base as usize + bucket(hash), 0);
+    while 0 < k {
+        let e = k - 1;
+        let next = cell(chains, base as usize + 256 + e as usize, 0);
+        if entry_is(first, second, table, e, hash, word) {
+            found = e;
+            k = next;
+            continue;
+        }
+        k = next;
+    }
+    found
+}
+
+// The entry k, which is the newest, goes in front of its chain.
+pub(crate) fn link(table: &[u16], k: u16, base: u16, chains: &mut [u16])
+    ensures { λ _. ⌜ now (chains .exit) ≡ linked base (now (table .entry)) k (now (chains .entry)) ⌝ }
+{
+    let b = bucket(cell(table, 2 * (k as usize), 0));
+    let before = cell(chains, base as usize + b, 0);
+    put(chains, base as usize + 256 + k as usize, before);
+    put(chains, base as usize + b, ((k as usize + 1) % 65536) as u16);
+}
+
+// The first `count` entries in their chains, one after the other.
+pub(crate) fn link_all(table: &[u16], count: u16, base: u16, chains: &mut [u16])
+    ensures { λ _. ⌜ now (chains .exit) ≡ linkedAll base (now (table .entry)) count 0 (now (chains .entry)) ⌝ }
+{
+    let mut k: u16 = 0;
+    while k < count {
+        link(table, k, base, chains);
+        k += 1;
+    }
 }
 
 // The entry k.

@@ -1,7 +1,7 @@
 // The line of a case.
 use crate::reading::Said;
+use lent::read::Read;
 use libc::STDOUT_FILENO;
-use texts::read::Read;
 
 fn word(bytes: &[u8]) {
     io::write_all(STDOUT_FILENO, bytes);

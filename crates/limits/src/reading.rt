@@ -1,10 +1,10 @@
 // Both readers on the two texts of a case. The storages that they are lent are filled beforehand, and looked at afterwards.
 use crate::storage::FILLED;
 use crate::storage::left_sound;
-use texts::read::NAMES;
-use texts::read::Read;
-use texts::read::SYMBOLS;
-use texts::read::TOKENS;
+use lent::read::NAMES;
+use lent::read::Read;
+use lent::read::SYMBOLS;
+use lent::read::TOKENS;
 use texts::read_job::read_job;
 use texts::read_program::read_program;
 

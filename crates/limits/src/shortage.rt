@@ -3,9 +3,9 @@ use crate::reading::Said;
 use crate::reading::said_of_job;
 use crate::reading::said_of_program;
 use crate::storage::FILLED;
-use texts::read::NAMES;
-use texts::read::SYMBOLS;
-use texts::read::TOKENS;
+use lent::read::NAMES;
+use lent::read::SYMBOLS;
+use lent::read::TOKENS;
 
 const FEW_TOKENS: usize = TOKENS - 1;
 

@@ -1,5 +1,5 @@
 // What a reader leaves in the five storages that it is lent.
-use texts::read::Read;
+use lent::read::Read;
 
 // What stands in storage before it is lent: a reader must not take it for anything.
 pub const FILLED: u16 = 43981;

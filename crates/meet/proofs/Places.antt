@@ -1,11 +1,16 @@
 -- Reading moves on: what each step says of the whole.
 use Prim.Native.Nat.{ℕ, _≤_, _<_}
 use mathlib.Core.Path.{_≡_}
+use mathlib.Core.Bool.{Bool, true, false, cond}
+use mathlib.Core.List.{List}
+use lib.Dec.{eqb, ltb}
+use lib.ListN.{length, getD}
 use native.Mathlib.Omega.{arith}
+use Rattle.brackets.specs.Passing.{behind as past, passed}
 use Rattle.meet.specs.Reading.{Behind, Onward}
-use Rattle.meet.specs.declared.reader.Place.{Place}
-use Rattle.meet.specs.declared.reader.Read.{Read}
-use Rattle.meet.specs.declared.reader.Read.the-variants.{On, Broken}
+use Rattle.brackets.specs.declared.place.Place.{Place}
+use Rattle.brackets.specs.declared.place.Read.{Read}
+use Rattle.brackets.specs.declared.place.Read.the-variants.{On, Broken}
 
 -- A broken line lies behind any place.
 pub behind-broken : (a r : Read) {x : ℕ} → r ≡ Broken x → Behind a r
@@ -13,6 +18,16 @@ behind-broken a r e = rw e tt
 
 pub onward-broken : (a r : Read) {x : ℕ} → r ≡ Broken x → Onward a r
 onward-broken a r e = rw e tt
+
+-- A bracket that stands behind a place is passed.
+pub bracket-passed : (text : List ℕ) (at b : ℕ) (a r : Read) {p : Place} → a ≡ On p → p .at ≤ at → r ≡ passed text p at b → Onward a r
+unfolding passed
+bracket-passed text at b a r {p} e h f = rw (e, f) (go (ltb at (length text)) (eqb (getD text at 0) b))
+  where
+    go : (x y : Bool) → Onward (On p) (cond x (cond y (On (past p at)) (Broken at)) (Broken at))
+    go true true = omega arith
+    go true false = tt
+    go false y = tt
 
 -- From a place on, by an earlier one.
 pub behind-on : (a r : Read) (q : Place) {p : Place} → a ≡ On p → p .at ≤ q .at → Behind (On q) r → Behind a r

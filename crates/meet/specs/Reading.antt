@@ -1,7 +1,7 @@
 -- Reading moves on.
 use Prim.Native.Nat.{_≤_, _<_}
-use Rattle.meet.specs.declared.reader.Read.{Read}
-use Rattle.meet.specs.declared.reader.Read.the-variants.{On, Broken}
+use Rattle.brackets.specs.declared.place.Read.{Read}
+use Rattle.brackets.specs.declared.place.Read.the-variants.{On, Broken}
 
 -- what is read lies behind the place before, and a broken line stays broken
 abbrev pub Behind : Read → Read → Type 0

@@ -1,5 +1,9 @@
 // From the bytes of a line to cells. A place past the end of the line has the byte 0, which stands in no token, so a line
 // that ends early is broken at its length.
+use brackets::place::Place;
+use brackets::place::Read;
+use brackets::place::inside;
+use brackets::place::pass;
 use meetings::class::NODES;
 use sets::cell;
 use sets::contraction;
@@ -12,19 +16,6 @@ ghost use Rattle.meet.specs.Reading.{Onward, Behind};
 pub const BRACKETS: usize = 64;
 
 pub const SYMBOLS: usize = 1024;
-
-// How far a line is read: the next byte, the cells of the run that is being written, the symbols met.
-pub struct Place {
-    pub at: usize,
-    pub cells: usize,
-    pub symbols: usize,
-}
-
-// Broken: the offset of the token at fault.
-pub enum Read {
-    On(Place),
-    Broken(usize),
-}
 
 // Blank: nothing stands in the line. Whole: the cells of the two expressions, and the non-equalities.
 pub enum Problem {
@@ -296,16 +287,7 @@ fn bracket(text: &[u8], from: Read, b: u8) -> Read
         return from;
     };
     let at = token(text, p.at);
-    if at < text.len() {
-        if text[at] == b {
-            return Read::On(Place {
-                at: at + 1,
-                cells: p.cells,
-                symbols: p.symbols,
-            });
-        }
-    }
-    Read::Broken(at)
+    pass(text, p, at, b)
 }
 
 // Behind the word `cons`.
@@ -370,9 +352,10 @@ fn expression(
     if open == 0 {
         return Read::Broken(at);
     }
-    let inside = pair_start(text, from, at, cells);
-    let head = expression(text, inside, open - 1, cells, names);
-    let tail = expression(text, head, open - 1, cells, names);
+    let start = pair_start(text, from, at, cells);
+    let left = inside(open);
+    let head = expression(text, start, left, cells, names);
+    let tail = expression(text, head, left, cells, names);
     bracket(text, tail, b')')
 }
 

@@ -17,7 +17,7 @@ use Rattle.expressions.proofs.Unification.{bound}
 use Rattle.sets.proofs.RestrictionLaws.{Front}
 use Rattle.heap.specs.Contracted.{Stores, contractedFrom}
 use Rattle.heap.specs.Compacting.{Compaction, compacted}
-use Rattle.heap.proofs.RunLaws.{Below, below-self}
+use Rattle.runs.proofs.RunLaws.{Below, below-self}
 use Rattle.heap.proofs.HeapLaws.{Range, Filling}
 use Rattle.heap.proofs.FrameLaws.{Held, Contracts, Outcome, contract-means}
 use Rattle.heap.proofs.CompactLaws.{Compacted, compact-means}

@@ -5,8 +5,8 @@ use mathlib.Core.List.{List, [], _∷_}
 use native.Mathlib.Omega.{arith}
 use lib.ListN.{getD}
 use borrow.Author.Tests.{eq-eqb, ne-eqb}
-use Rattle.heap.specs.Runs.{run}
-use Rattle.heap.proofs.RunLaws.{run-cons, run-end}
+use Rattle.runs.specs.Runs.{run}
+use Rattle.runs.proofs.RunLaws.{run-cons, run-end}
 use Rattle.meetings.specs.Differing.{commonFront, firstDifference}
 use Rattle.meetings.specs.declared.difference.Difference.{Difference}
 

@@ -10,10 +10,10 @@ use lib.Seq.{sets, length-sets}
 use Rattle.sets.specs.Fill.{fillAnswer}
 use Rattle.sets.specs.declared.fill.Filled.{Filled}
 use Rattle.sets.specs.declared.fill.Filled.the-variants.{Done, Over}
-use Rattle.heap.specs.Runs.{written, standsInRun, appendedFilled}
+use Rattle.runs.specs.Runs.{written, standsInRun, appendedFilled}
 use Rattle.heap.specs.Entries.{entryFrom, entryTo}
 use Rattle.heap.specs.Contracted.{Stores, stores, enteredFilled, onward, onwardFrom, contractedEntry, contractedFrom}
-use Rattle.heap.proofs.RunLaws.{Below, below-self, below-sets}
+use Rattle.runs.proofs.RunLaws.{Below, below-self, below-sets}
 use Rattle.heap.proofs.FrameLaws.{entry-length}
 
 pub below-then : {k n : ℕ} {a b c : List ℕ} → Below k a b → Below n b c → n ≤ k → Below n a c

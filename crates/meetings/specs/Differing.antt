@@ -5,7 +5,7 @@ use mathlib.Core.List.{List, [], _∷_}
 use lib.Dec.{eqb, leb}
 use lib.ListN.{getD}
 use Rattle.sets.specs.Cells.{treeEnd, standsIn}
-use Rattle.heap.specs.Runs.{run}
+use Rattle.runs.specs.Runs.{run}
 use Rattle.meetings.specs.declared.difference.Disagreement.{Disagreement}
 use Rattle.meetings.specs.declared.difference.Disagreement.the-variants.{Same, Apart, Bind}
 use Rattle.meetings.specs.declared.difference.Difference.{Difference}

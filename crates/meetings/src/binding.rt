@@ -3,24 +3,12 @@ use crate::class;
 use crate::class::Class;
 use crate::class::Met;
 use crate::class::Step;
+use heap::apply::bind_restriction;
 use heap::contract;
 use sets::cell;
-use sets::restriction;
 use sets::restriction::Restricted;
 ghost use mathlib.Core.Path.{_≡_};
-ghost use Rattle.sets.specs.Restricting.{restrictAnswer};
-ghost use Rattle.heap.specs.Moving.{boundRestriction};
 ghost use Rattle.meetings.specs.Binding.{bound, stepLeft, entriesBound, variableBound};
-
-// A `?a` bound in the non-equalities, which have no `?e`.
-fn bind_restriction(q: &mut [u16; 4096], n: usize, var: u16, to: u16) -> Restricted
-    ensures { λ r. ⌜ restrictAnswer r (now (q .exit)) ≡ boundRestriction n var to (now (q .entry)) ⌝ }
-{
-    if var % 4 == 3 {
-        return restriction::bind(q, n, var, to);
-    }
-    Restricted::Kept(n)
-}
 
 // The variable bound to the tree of a range in the inputs, w and u.
 fn bind_entries(

@@ -1,6 +1,6 @@
 // "A file that cannot be read counts as empty" (01, "Printing, and cases"): also where a part of it was read before a read failed.
 use libc::EINTR;
-use writer::sink::clear;
+use window::sink::clear;
 ghost use mathlib.Core.Path.{_≡_};
 ghost use Prim.Native.Nat.{_-_, _≤_};
 ghost use lib.ListN.{length, drop, replicate};

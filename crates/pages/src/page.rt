@@ -5,7 +5,7 @@ use print::ran::print_run;
 ghost use mathlib.Core.Path.{_≡_};
 ghost use Prim.Native.Nat.{_*_, _-_, min};
 ghost use lib.ListN.{length};
-ghost use Rattle.writer.specs.Sink.{windowed};
+ghost use Rattle.window.specs.Sink.{windowed};
 ghost use Rattle.print.specs.ListedText.{listedText};
 ghost use Rattle.print.specs.RanText.{ranText};
 

@@ -18,9 +18,9 @@ use Rattle.sets.specs.Cells.{cells, evarCode, atomicCode}
 use Rattle.sets.specs.Fill.{FillAnswer, fillAnswer}
 use Rattle.sets.specs.declared.fill.Filled.{Filled}
 use Rattle.sets.specs.declared.fill.Filled.the-variants.{Done, Over as FilledOver}
-use Rattle.heap.specs.Runs.{written, run}
+use Rattle.runs.specs.Runs.{written, run}
 use Rattle.heap.specs.declared.configuration.Configuration.{Configuration}
-use Rattle.heap.proofs.RunLaws.{Below, below-self, below-sets, run-cons}
+use Rattle.runs.proofs.RunLaws.{Below, below-self, below-sets, run-cons}
 use Rattle.heap.proofs.HeapLaws.{Holds}
 use Rattle.heap.proofs.NodeLaws.{holds-nodes}
 use Rattle.heap.proofs.PairLaws.{head-holds, tail-holds, head-end}
@@ -35,10 +35,10 @@ use Rattle.values.proofs.RoomLaws.{value-outcome}
 use Rattle.values.proofs.RoomLaws as values
 use Rattle.values.proofs.StateLaws.{HoldsPair}
 use Rattle.values.specs.Names.{namesFrom}
-use Rattle.pairs.specs.Looking.{testAt, testedBy, testedAt, LookLeft, lookLeft, testedValue, lookAt}
-use Rattle.pairs.specs.Taking.{namesAt}
-use Rattle.pairs.specs.declared.look.Tested.{Tested}
-use Rattle.pairs.specs.declared.look.Tested.the-variants.{Atom, Pair, Variable, Large}
+use Rattle.looking.specs.Looking.{testAt, testedBy, testedAt, LookLeft, lookLeft, testedValue, lookAt}
+use Rattle.looking.specs.Taking.{namesAt}
+use Rattle.looking.specs.declared.look.Tested.{Tested}
+use Rattle.looking.specs.declared.look.Tested.the-variants.{Atom, Pair, Variable, Large}
 use Rattle.pairs.proofs.NameLaws.{names-held, entries-are}
 
 -- what is written at a place or behind it leaves what lies below as it was

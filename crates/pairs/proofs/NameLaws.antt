@@ -15,7 +15,7 @@ use Rattle.semantics.specs.Configuration.{ExpEnv, state, withEnv}
 use Rattle.heap.specs.Entries.{PushAnswer}
 use Rattle.heap.specs.declared.entry.Pushed.the-variants.{Done}
 use Rattle.heap.specs.declared.configuration.Configuration.{Configuration}
-use Rattle.heap.proofs.RunLaws.{below-self}
+use Rattle.runs.proofs.RunLaws.{below-self}
 use Rattle.heap.proofs.HeapLaws.{Holds}
 use Rattle.heap.proofs.FrameLaws.{Held, held-front}
 use Rattle.heap.proofs.PartLaws.{held-first, held-second, held-joined}

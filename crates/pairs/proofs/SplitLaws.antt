@@ -20,19 +20,19 @@ use Rattle.sets.specs.Counting.{fresh, handed}
 use Rattle.sets.specs.declared.counter.Handed.the-variants.{Numbers}
 use Rattle.sets.specs.declared.fill.Filled.the-variants.{Done, Over as FilledOver}
 use Rattle.sets.proofs.CounterLaws.{handed-numbers}
-use Rattle.heap.specs.Runs.{appendedPair}
+use Rattle.runs.specs.Runs.{appendedPair}
 use Rattle.heap.specs.Contracted.{Stores, contractedEntries}
 use Rattle.heap.specs.Entries.{PushAnswer}
 use Rattle.heap.specs.Moving.{left}
 use Rattle.heap.specs.declared.configuration.Configuration.{Configuration as InCells}
 use Rattle.heap.specs.declared.configuration.Moved.the-variants.{On, Over}
-use Rattle.heap.proofs.RunLaws.{Below, below-self}
+use Rattle.runs.proofs.RunLaws.{Below, below-self}
 use Rattle.heap.proofs.HeapLaws.{Holds, Range, Filling, filling-e, Grown, written-holds}
 use Rattle.heap.proofs.PairLaws.{head-holds, tail-holds}
 use Rattle.linking.specs.Linked.{TermLinked}
 use Rattle.values.proofs.StateLaws.{HoldsPair, Leads}
 use Rattle.values.proofs.ContractionLaws.{appliedPair, usedTo, AppliedOutcome, contract-pair, written-range, written-same, written-size}
-use Rattle.pairs.specs.Taking.{placedAs}
+use Rattle.looking.specs.Taking.{placedAs}
 use Rattle.pairs.specs.Splitting.{filledOn, contractedAll, boundContracted, pairMade, atomMade, pairSplit, atomSplit, codeOf}
 use Rattle.pairs.proofs.NameLaws.{Named}
 use Rattle.pairs.proofs.LookLaws.{TestAt}

@@ -20,7 +20,7 @@ use Rattle.heap.specs.Moving.{Move}
 use Rattle.heap.specs.declared.configuration.Configuration.{Configuration as InCells}
 use Rattle.heap.specs.declared.configuration.Moved.{Moved}
 use Rattle.heap.specs.declared.configuration.Moved.the-variants.{On, Over}
-use Rattle.heap.proofs.RunLaws.{Below}
+use Rattle.runs.proofs.RunLaws.{Below}
 use Rattle.heap.proofs.HeapLaws.{Holds}
 use Rattle.heap.proofs.FrameLaws.{held-kept}
 use Rattle.linking.specs.Linked.{placeIn, withName, TermLinked}
@@ -28,7 +28,7 @@ use Rattle.values.specs.Binding.{boundAt}
 use Rattle.values.proofs.StateLaws.{HoldsPair, Leads, leads-to}
 use Rattle.values.proofs.ContractionLaws.{usedTo, pair-same}
 use Rattle.values.specs.Names.{namesFrom}
-use Rattle.pairs.specs.Taking.{placedAs, partsBound, atomBound, placedWith, pairTaken, atomTaken}
+use Rattle.looking.specs.Taking.{placedAs, partsBound, atomBound, placedWith, pairTaken, atomTaken}
 use Rattle.pairs.proofs.NameLaws.{entriesTo, Named, bound-name-e, bound-name-a}
 use Rattle.pairs.proofs.LookLaws.{TestAt, names-from-is}
 

@@ -5,10 +5,10 @@ use mathlib.Core.List.{List}
 use Rattle.heap.specs.Moving.{Move, moved}
 use Rattle.heap.specs.declared.configuration.Configuration.{Configuration}
 use Rattle.heap.specs.declared.configuration.Moved.the-variants.{Over}
-use Rattle.pairs.specs.Taking.{pairTaken, atomTaken}
+use Rattle.looking.specs.Taking.{pairTaken, atomTaken}
 use Rattle.pairs.specs.Splitting.{pairSplit, atomSplit}
-use Rattle.pairs.specs.declared.look.Tested.{Tested}
-use Rattle.pairs.specs.declared.look.Tested.the-variants.{Atom, Pair, Variable, Large}
+use Rattle.looking.specs.declared.look.Tested.{Tested}
+use Rattle.looking.specs.declared.look.Tested.the-variants.{Atom, Pair, Variable, Large}
 use Rattle.heap.specs.declared.configuration.Branches.{Branches}
 
 abbrev pub branchesOf : Tested → Branches

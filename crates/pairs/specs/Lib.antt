@@ -1,4 +1,2 @@
-pub mod Looking
-pub mod Taking
 pub mod Splitting
 pub mod Branching

@@ -9,7 +9,7 @@ use Rattle.sets.specs.declared.counter.Handed.{Handed}
 use Rattle.sets.specs.declared.counter.Handed.the-variants.{Numbers, Spent}
 use Rattle.sets.specs.declared.fill.Filled.{Filled}
 use Rattle.sets.specs.declared.fill.Filled.the-variants.{Done, Over as FilledOver}
-use Rattle.heap.specs.Runs.{appendedPair}
+use Rattle.runs.specs.Runs.{appendedPair}
 use Rattle.heap.specs.Contracted.{contractedEntries}
 use Rattle.heap.specs.Moving.{Move, moved}
 use Rattle.heap.specs.declared.entry.Pushed.{Pushed}
@@ -18,7 +18,7 @@ use Rattle.heap.specs.declared.configuration.Configuration.{Configuration}
 use Rattle.heap.specs.declared.configuration.Moved.{Moved}
 use Rattle.heap.specs.declared.configuration.Moved.the-variants.{On, Over}
 use Rattle.linking.specs.Code.{linkAt}
-use Rattle.pairs.specs.Taking.{placedAs, partsBound, atomBound}
+use Rattle.looking.specs.Taking.{placedAs, partsBound, atomBound}
 
 unfoldable pub filledOn : Configuration → Filled → Moved
 filledOn c (Done k) = On (placedAs c (c .entries) k (c .place) (c .counter))

@@ -1,12 +1,12 @@
 // The two branches of a `cons?`, by what it tests.
-use crate::look::Tested;
 use crate::split::split_atom;
 use crate::split::split_pair;
-use crate::take::take_atom;
-use crate::take::take_pair;
 use heap::configuration::Branches;
 use heap::configuration::Configuration;
 use heap::configuration::Moved;
+use looking::look::Tested;
+use looking::take::take_atom;
+use looking::take::take_pair;
 ghost use mathlib.Core.Path.{_≡_};
 ghost use Rattle.heap.specs.Moving.{moved};
 ghost use Rattle.pairs.specs.Branching.{trueTaken, falseTaken, branchesOf};

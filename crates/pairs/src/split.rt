@@ -1,14 +1,14 @@
 // The branches of a `cons?` on a `?e`: "true gives a pair of two fresh `?e`, false a fresh `?a`", "three numbers ..: head, tail, atom" on both. The new
 // value's cells stand behind what is used. The names are bound before the contraction: the value of a name that is bound again neither counts nor is filled.
-use crate::take::bind_atom;
-use crate::take::bind_parts;
-use crate::take::placed;
 use heap::configuration::Configuration;
 use heap::configuration::Moved;
 use heap::contract::contract_entries;
 use heap::entry::Pushed;
-use heap::run;
 use linking::code::link_at;
+use looking::take::bind_atom;
+use looking::take::bind_parts;
+use looking::take::placed;
+use runs::run;
 use sets::contraction;
 use sets::counter::Counter;
 use sets::counter::Handed;

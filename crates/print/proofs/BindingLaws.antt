@@ -18,7 +18,7 @@ use Rattle.listing.specs.Bindings.{same, Binding, isBound, addBinding, bindings
 use Rattle.listing.specs.Print.{print, printBindings}
 use Rattle.sets.specs.Cells.{cells, cellsAll, part, treeEnd, anyCell, standsIn}
 use Rattle.sets.proofs.CellLaws.{cells-nodes, cellsAll-nodes, Stands, stands-end, stands-behind, stands-part, head-stands}
-use Rattle.writer.specs.TreeText.{leafText, treeText}
+use Rattle.window.specs.TreeText.{leafText, treeText}
 use Rattle.writer.specs.LineText.{pastAt, bindingText, bindingAt, bindingsFrom, bindingsText}
 use Rattle.print.proofs.SeenLaws.{IsVariable, same-first, variable-tag, bound, Seen, seen-other, seen-added}
 use Rattle.print.proofs.TreeLaws.{firstCell, stands-first, stands-below, tail-behind, leaf-atomic, leaf-evar, tree-printed}

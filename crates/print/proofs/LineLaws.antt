@@ -17,7 +17,7 @@ use Rattle.listing.specs.Print.{digits, printRestriction, printLine, printLines
 use Rattle.sets.specs.Cells.{cells, cellsAll, restrictionCells, part}
 use Rattle.sets.proofs.CellLaws.{cells-nodes, cellsAll-nodes}
 use Rattle.print.specs.declared.list.Ending.{Ending}
-use Rattle.ends.specs.LineCells.{lineCells, linesCells}
+use Rattle.lines.specs.LineCells.{lineCells, linesCells}
 use Rattle.writer.specs.LineText.{bindingsText, nonEqualityText, restrictionText, classEnd, lineEnd, lineText, linesText}
 use Rattle.print.specs.ListingText.{endingWord, firstText, listingText}
 use Rattle.print.proofs.TreeLaws.{leaf-atomic}

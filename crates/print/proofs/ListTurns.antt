@@ -8,8 +8,8 @@ use Rattle.texts.specs.BothCells.{bothOver}
 use Rattle.texts.specs.declared.both.Both.{Both}
 use Rattle.print.specs.declared.list.Ending.{Ending}
 use Rattle.print.specs.declared.list.Terms.{Terms}
-use Rattle.writer.specs.Sink.{windowed}
-use Rattle.writer.specs.TreeText.{symbolText}
+use Rattle.window.specs.Sink.{windowed}
+use Rattle.window.specs.TreeText.{symbolText}
 use Rattle.print.specs.ListingText.{listingText}
 use Rattle.print.specs.ListedText.{TermsLeft, termsLeft, jobTerms, namedListing}
 

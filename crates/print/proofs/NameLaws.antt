@@ -20,7 +20,7 @@ use Rattle.lexer.specs.Table.{wordIn}
 use Rattle.lexer.specs.Lexed.{State}
 use Rattle.lexer.proofs.TableMeaning.{Holds}
 use Rattle.syntax.proofs.JobRead.{JobStored}
-use Rattle.writer.specs.TreeText.{symbolText}
+use Rattle.window.specs.TreeText.{symbolText}
 
 -- a symbol begins with its quote
 abbrev Quoted : Word → Type 0

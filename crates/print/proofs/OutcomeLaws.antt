@@ -14,7 +14,7 @@ use Rattle.listing.specs.Text.{printRan}
 use Rattle.sets.specs.Cells.{cells}
 use Rattle.writer.specs.declared.outcome.Outcome.{Outcome}
 use Rattle.writer.specs.declared.outcome.Outcome.the-variants.{Value as ValueOf, Over, NotWithin}
-use Rattle.writer.specs.TreeText.{treeText}
+use Rattle.window.specs.TreeText.{treeText}
 use Rattle.writer.specs.OutcomeText.{valueText, outcomeText}
 use Rattle.print.proofs.TreeLaws.{tree-printed}
 

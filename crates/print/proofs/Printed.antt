@@ -26,14 +26,14 @@ use Rattle.semantics.specs.Answer as meaning
 use Rattle.semantics.specs.Answer.{answered, walked, ran, Listed, list, run}
 use Rattle.semantics.proofs.AcceptedTexts.{run-answer, list-answer}
 use Rattle.listing.specs.Text.{printRefusal, printRefusalOfNeither, listText, runText}
-use Rattle.texts.specs.ReadCells.{zeros}
+use Rattle.lent.specs.Storage.{zeros}
 use Rattle.texts.specs.BothCells.{BothAnswer, bothOver}
 use Rattle.texts.proofs.BothRead.{zeros-length, taken, texts-by-reading}
 use Rattle.heap.proofs.HeapLaws.{sets-cells}
-use Rattle.initial.proofs.TreeLaws.{run-drop}
+use Rattle.runs.proofs.RunLaws.{run-drop}
 use Rattle.initial.proofs.JobLaws.{jobHeap, job-laid, laid-whole}
 use Rattle.initial.proofs.BeginTexts.{accepted-sides, job-here, job-short}
-use Rattle.ends.specs.LineCells.{linesCells}
+use Rattle.lines.specs.LineCells.{linesCells}
 use Rattle.resolve.specs.RunAnswer as runs
 use Rattle.resolve.specs.ListAnswer.{worded, answerOf, cellsAfter, tooShort, listLeft}
 use Rattle.answers.specs.declared.list.Answer.{Answer}
@@ -44,7 +44,7 @@ use Rattle.print.specs.declared.list.Ending.{Ending}
 use Rattle.print.specs.declared.list.Ending.the-variants.{Whole as WholeWord, Cut as CutWord, Stop21 as Word21, Stop22 as Word22, Stop23 as Word23}
 use Rattle.writer.specs.declared.outcome.Outcome.{Outcome}
 use Rattle.writer.specs.declared.outcome.Outcome.the-variants.{Value as ValueOut, Over, NotWithin}
-use Rattle.writer.specs.TreeText.{symbolText}
+use Rattle.window.specs.TreeText.{symbolText}
 use Rattle.print.specs.Names.{foundIn, textNames}
 use Rattle.print.specs.ListingText.{endingWord, listingText}
 use Rattle.writer.specs.OutcomeText.{outcomeText}

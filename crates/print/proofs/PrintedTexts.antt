@@ -16,8 +16,8 @@ use Rattle.listing.specs.Text.{letterOf, printRefusal, printAnswer, printRan, l
 use Rattle.lexer.specs.Lexed.{State}
 use Rattle.syntax.proofs.JobRead.{JobStored}
 use Rattle.print.specs.declared.list.Ending.{Ending}
-use Rattle.ends.specs.LineCells.{linesCells}
-use Rattle.writer.specs.TreeText.{symbolText}
+use Rattle.lines.specs.LineCells.{linesCells}
+use Rattle.window.specs.TreeText.{symbolText}
 use Rattle.print.specs.ListingText.{endingWord, listingText}
 use Rattle.writer.specs.OutcomeText.{outcomeText}
 use Rattle.print.proofs.BindingLaws.{pairCells}

@@ -7,15 +7,15 @@ use Rattle.listing.specs.Text.{printRefusal, printRefusalOfNeither}
 use Rattle.texts.specs.BothCells.{bothOver}
 use Rattle.texts.specs.declared.both.Both.{Both}
 use Rattle.texts.specs.declared.both.Both.the-variants.{Accepted, Program as OfProgram, Job as OfJob, Short as TooShort}
-use Rattle.initial.specs.Laying.{jobLaid}
-use Rattle.initial.specs.declared.job.Laid.{Laid}
-use Rattle.initial.specs.declared.job.Laid.the-variants.{Done, Over}
+use Rattle.layout.specs.Laying.{jobLaid}
+use Rattle.layout.specs.declared.job.Laid.{Laid}
+use Rattle.layout.specs.declared.job.Laid.the-variants.{Done, Over}
 use Rattle.answers.specs.declared.list.Answer.{Answer}
 use Rattle.answers.specs.declared.list.Answer.the-variants.{Whole, Cut, Stop21, Stop22, Stop23, Program, Job, Short}
 use Rattle.print.specs.declared.list.Ending.{Ending}
 use Rattle.print.specs.declared.list.Ending.the-variants.{Whole as WholeOf, Cut as CutOf, Stop21 as Stop21Of, Stop22 as Stop22Of, Stop23 as Stop23Of}
 use Rattle.print.specs.declared.list.Terms.{Terms}
-use Rattle.writer.specs.TreeText.{symbolText}
+use Rattle.window.specs.TreeText.{symbolText}
 use Rattle.print.specs.ListingText.{listingText}
 
 pub record TermsLeft : Type 0 where

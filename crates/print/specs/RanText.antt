@@ -9,7 +9,7 @@ use Rattle.answers.specs.declared.run.Answer.the-variants.{Value, Over, NotWith
 use Rattle.writer.specs.declared.outcome.Outcome.{Outcome}
 use Rattle.writer.specs.declared.outcome.Outcome.the-variants.{Value as ValueOf, Over as OverOf, NotWithin as NotWithinOf}
 use Rattle.print.specs.Names.{textNames}
-use Rattle.writer.specs.TreeText.{symbolText}
+use Rattle.window.specs.TreeText.{symbolText}
 use Rattle.writer.specs.OutcomeText.{outcomeText}
 
 unfoldable pub namedText : List ℕ → List ℕ → List ℕ → Outcome → List ℕ

@@ -1,20 +1,20 @@
 // The text of a listing, from the two texts and from what `resolve::list` answered and left.
 use answers::list::Answer;
-use initial::job::Laid;
-use initial::job::lay_job;
+use layout::job::Laid;
+use layout::job::lay_job;
 use texts::both::Both;
 use texts::both::read_both;
+use window::parts::front;
+use window::sink;
+use window::sink::Place;
 use writer::line::put_lines;
 use writer::line::put_numbers;
-use writer::parts::front;
 use writer::refusal::print_refusal;
-use writer::sink;
-use writer::sink::Place;
 ghost use mathlib.Core.Path.{_≡_};
 ghost use Prim.Native.Nat.{_*_, _-_, min};
 ghost use lib.ListN.{length, take};
-ghost use Rattle.writer.specs.Sink.{Wrote, windowed};
-ghost use Rattle.writer.specs.TreeText.{symbolText};
+ghost use Rattle.window.specs.Sink.{Wrote, windowed};
+ghost use Rattle.window.specs.TreeText.{symbolText};
 ghost use Rattle.print.specs.ListingText.{endingText, firstText, listingText};
 ghost use Rattle.print.specs.ListedText.{termsLeft, jobTerms, namedListing, listedText};
 

@@ -7,7 +7,7 @@ use writer::refusal::print_refusal;
 ghost use mathlib.Core.Path.{_≡_};
 ghost use Prim.Native.Nat.{_-_, min};
 ghost use lib.ListN.{length};
-ghost use Rattle.writer.specs.Sink.{windowed};
+ghost use Rattle.window.specs.Sink.{windowed};
 ghost use Rattle.print.specs.RanText.{namedText, ranText};
 
 // An outcome, the symbols by their names in the texts.

@@ -17,7 +17,7 @@ use Rattle.semantics.proofs.Soundness.{Sound}
 use Rattle.semantics.proofs.Tracing.{Scoped}
 use Rattle.semantics.proofs.Reaching.{Reaches}
 use Rattle.heap.specs.declared.configuration.Configuration.{Configuration as InCells}
-use Rattle.heap.proofs.RunLaws.{Below, below-self}
+use Rattle.runs.proofs.RunLaws.{Below, below-self}
 use Rattle.heap.proofs.FrameLaws.{held-back}
 use Rattle.saving.specs.Saving.{loaded}
 use Rattle.saving.specs.Records.{Record, recordOf, recordsCells, Holding, Fits}

@@ -19,7 +19,7 @@ use Rattle.semantics.proofs.Reaching.{branchOf, Reaches, here, byCall, byDecisi
 use Rattle.heap.specs.Moving.{Left}
 use Rattle.heap.specs.declared.configuration.Configuration.{Configuration as InCells}
 use Rattle.heap.specs.declared.configuration.Moved.the-variants.{On, Over}
-use Rattle.heap.proofs.RunLaws.{Below}
+use Rattle.runs.proofs.RunLaws.{Below}
 use Rattle.linking.specs.Code.{linkAt}
 use Rattle.saving.specs.Saving.{SaveLeft, savedTo, LoadLeft, loaded}
 use Rattle.saving.specs.Records.{Record, recordOf, recordCells, recordsCells, Fits, Holding}

@@ -14,7 +14,7 @@ use Rattle.semantics.specs.Configuration.{nodesState, Configuration}
 use Rattle.semantics.specs.Tree.{Node}
 use Rattle.semantics.specs.Backtrack.{Choice}
 use Rattle.heap.specs.Compacting.{Compaction, compacted}
-use Rattle.heap.proofs.RunLaws.{Below}
+use Rattle.runs.proofs.RunLaws.{Below}
 use Rattle.heap.proofs.CompactLaws.{Compacted, compact-means}
 use Rattle.heap.specs.declared.configuration.Configuration.{Configuration as InCells}
 use Rattle.saving.specs.Heads.{usedAt}

@@ -31,8 +31,8 @@ fn is_there(code: &[u16; 16388], n: Node, last: usize) -> bool
     last <= n.depth
 }
 
-// Saved again where the false branch is untaken.
-fn save_if(
+// Saved, also again, where the false branch is untaken.
+pub fn save_if(
     frame: &[u16; 12360],
     q: &[u16; 4096],
     saved: &mut [u16; 16384],

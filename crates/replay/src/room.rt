@@ -17,7 +17,7 @@ fn is_full(used: usize) -> bool
 }
 
 // Whether the heap is full, or much has been written since the latest configuration was saved, of which at most 4,096 cells are in use.
-fn is_tight(used: usize, floor: usize) -> bool
+pub fn is_tight(used: usize, floor: usize) -> bool
     ensures { λ r. ⌜ r ≡ isTight used floor ⌝ }
 {
     if is_full(used) {

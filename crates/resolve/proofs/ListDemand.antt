@@ -13,10 +13,10 @@ use Rattle.semantics.specs.Answer as meaning
 use Rattle.semantics.specs.Answer.{Listed, list}
 use Rattle.semantics.specs.Demand3.{Unstopped}
 use Rattle.semantics.proofs.AcceptedTexts.{list-answer, listed-correct}
-use Rattle.texts.specs.ReadCells.{zeros}
-use Rattle.ends.specs.LineCells.{linesCells}
-use Rattle.ends.specs.LineReading.{readLines}
-use Rattle.ends.proofs.ReadingLaws.{lines-read}
+use Rattle.lent.specs.Storage.{zeros}
+use Rattle.lines.specs.LineCells.{linesCells}
+use Rattle.lines.specs.LineReading.{readLines}
+use Rattle.lines.proofs.ReadingLaws.{lines-read}
 use Rattle.resolve.specs.ListAnswer.{ListLeft, worded, answerOf, linesThen, cellsAfter, tooShort, unlessShort, listLeft, linesIn}
 use Rattle.resolve.specs.ListCells.{ListOut, listTexts}
 use Rattle.resolve.specs.ListDemand.{Ended, StoredListing}

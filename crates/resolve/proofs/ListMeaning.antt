@@ -18,7 +18,7 @@ use Rattle.language.proofs.Acceptance.{accepted-passed}
 use Rattle.lexer.specs.Lexed.{State}
 use Rattle.syntax.specs.declared.job_ends.JobEnds.{JobEnds}
 use Rattle.syntax.specs.declared.numerals.Numerals.{Numerals}
-use Rattle.texts.specs.ReadCells.{zeros}
+use Rattle.lent.specs.Storage.{zeros}
 use Rattle.syntax.proofs.ProgramRead.{ProgramStored}
 use Rattle.syntax.proofs.JobRead.{JobStored}
 use Rattle.semantics.specs.Configuration.{Configuration, nodesState, start}
@@ -40,12 +40,12 @@ use Rattle.initial.specs.declared.begin.Begun.the-variants.{Over as BegunOver}
 use Rattle.initial.proofs.BeginLaws.{inMain, Begins, BeginsAs, start-main}
 use Rattle.initial.proofs.BeginTexts.{params-few, accepted-begins}
 use Rattle.tracing.proofs.ShowLaws.{Accepted}
-use Rattle.ends.specs.LineCells.{linesCells, answerRoom}
-use Rattle.ends.proofs.LineLaws.{LinesHeld, no-lines}
-use Rattle.ends.proofs.LineLaws as lines
-use Rattle.walk.specs.Finding.{nothingFound}
+use Rattle.lines.specs.LineCells.{linesCells, answerRoom}
+use Rattle.lines.proofs.LineLaws.{LinesHeld, no-lines}
+use Rattle.lines.proofs.LineLaws as lines
+use Rattle.turns.specs.Finding.{nothingFound}
 use Rattle.walk.specs.Jobs.{JobLeft, jobLeft, onBegun, walkJob}
-use Rattle.walk.specs.declared.found.Walked.{Walked as Came}
+use Rattle.turns.specs.declared.found.Walked.{Walked as Came}
 use Rattle.walk.proofs.JobLaws.{Leaves, begun-means}
 use Rattle.texts.specs.BothCells.{BothAnswer, bothOver}
 use Rattle.resolve.specs.ListAnswer.{ListLeft, worded, answerOf, linesThen, cellsAfter}

@@ -18,7 +18,7 @@ use Rattle.language.specs.Reading.{accepted, rejected, reading}
 use Rattle.language.proofs.Acceptance.{accepted-passed}
 use Rattle.lexer.specs.Lexed.{State}
 use Rattle.syntax.specs.declared.job_ends.JobEnds.{JobEnds}
-use Rattle.texts.specs.ReadCells.{zeros}
+use Rattle.lent.specs.Storage.{zeros}
 use Rattle.syntax.proofs.ProgramRead.{ProgramStored}
 use Rattle.syntax.proofs.JobRead.{JobStored}
 use Rattle.semantics.specs.Embedding.{embed}
@@ -39,8 +39,9 @@ use Rattle.initial.proofs.BeginTexts.{params-few}
 use Rattle.initial.proofs.EmbedLaws.{noughts, ones, all-embed}
 use Rattle.initial.proofs.RunBegins.{runMain, RunsAs, accepted-runs}
 use Rattle.tracing.proofs.ShowLaws.{Accepted}
-use Rattle.forward.specs.Running.{RanAnswer, ranAnswer, settled, runBegun, runInputs}
-use Rattle.forward.specs.declared.ran.Ran.{Ran as RanCells}
+use Rattle.running.specs.Answers.{RanAnswer, ranAnswer, settled}
+use Rattle.forward.specs.Running.{runBegun, runInputs}
+use Rattle.running.specs.declared.ran.Ran.{Ran as RanCells}
 use Rattle.forward.proofs.RunMeans.{RanMeans, runner-over, run-means}
 use Rattle.resolve.specs.RunAnswer.{RunLeft, answerOf, cellsAfter}
 use Rattle.answers.specs.declared.run.Answer.{Answer as Outcome}

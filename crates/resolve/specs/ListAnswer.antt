@@ -8,8 +8,8 @@ use Rattle.language.specs.Tokens.{ofProgram, ofJob}
 use Rattle.semantics.specs.Tree.{Line}
 use Rattle.semantics.specs.Walk.{stop21, stop22, stop23, Word, whole, cut, stop, wordOf, linesOf, countOf}
 use Rattle.semantics.specs.Answer as meaning
-use Rattle.texts.specs.ReadCells.{zeros}
-use Rattle.ends.specs.LineCells.{linesCells, answerRoom}
+use Rattle.lent.specs.Storage.{zeros}
+use Rattle.lines.specs.LineCells.{linesCells, answerRoom}
 use Rattle.resolve.specs.RunAnswer.{workCells}
 use Rattle.answers.specs.declared.list.Answer.{Answer}
 use Rattle.answers.specs.declared.list.Answer.the-variants.{Whole, Cut, Stop21, Stop22, Stop23, Program, Job, Short}

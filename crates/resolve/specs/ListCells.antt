@@ -4,16 +4,16 @@ use mathlib.Core.Path.{_≡_}
 use mathlib.Core.Bool.{false}
 use mathlib.Core.List.{List}
 use lib.ListN.{replicate}
-use Rattle.texts.specs.ReadCells.{zeros}
+use Rattle.lent.specs.Storage.{zeros}
 use Rattle.syntax.specs.declared.job_ends.JobEnds.{JobEnds}
 use Rattle.syntax.specs.declared.numerals.Numerals.{Numerals}
 use Rattle.linking.specs.Linking.{programLinked}
 use Rattle.initial.specs.Beginning.{mainBody}
 use Rattle.walk.specs.Jobs.{JobLeft, walkJob}
-use Rattle.walk.specs.declared.found.Found.{Found}
-use Rattle.walk.specs.declared.found.Ending.{Ending}
-use Rattle.walk.specs.declared.found.Ending.the-variants.{Done, Over, Full, Spent}
-use Rattle.walk.specs.declared.found.Walked.{Walked}
+use Rattle.turns.specs.declared.found.Found.{Found}
+use Rattle.turns.specs.declared.found.Ending.{Ending}
+use Rattle.turns.specs.declared.found.Ending.the-variants.{Done, Over, Full, Spent}
+use Rattle.turns.specs.declared.found.Walked.{Walked}
 use Rattle.resolve.specs.ListAnswer.{ListLeft}
 use Rattle.texts.specs.BothCells.{BothAnswer, bothOver}
 use Rattle.texts.specs.declared.both.Both.{Both}

@@ -7,7 +7,7 @@ use Rattle.expressions.specs.Class.{IOClass}
 use Rattle.language.specs.Program.{Prog}
 use Rattle.semantics.specs.Walk.{Walked, wordOf, linesOf, countOf}
 use Rattle.semantics.specs.Demand3.{ListingCorrect}
-use Rattle.ends.specs.LineReading.{readLines}
+use Rattle.lines.specs.LineReading.{readLines}
 use Rattle.resolve.specs.ListAnswer.{worded, linesIn}
 use Rattle.answers.specs.declared.list.Answer.{Answer}
 use Rattle.answers.specs.declared.list.Answer.the-variants.{Whole, Cut, Stop21, Stop22, Stop23, Program, Job, Short}

@@ -10,7 +10,7 @@ use Rattle.language.specs.Tokens.{ofProgram, ofJob}
 use Rattle.semantics.specs.Embedding.{embed}
 use Rattle.semantics.specs.Runner.{Ran, value, ranOver, notWithin, nodesValue}
 use Rattle.semantics.specs.Answer as meaning
-use Rattle.texts.specs.ReadCells.{zeros}
+use Rattle.lent.specs.Storage.{zeros}
 use Rattle.answers.specs.declared.run.Answer.{Answer}
 use Rattle.answers.specs.declared.run.Answer.the-variants.{Value as ValueOf, Over, NotWithin, Program, Job, Short}
 

@@ -4,13 +4,14 @@ use mathlib.Core.Path.{_≡_}
 use mathlib.Core.Bool.{true}
 use mathlib.Core.List.{List}
 use lib.ListN.{replicate}
-use Rattle.texts.specs.ReadCells.{zeros}
+use Rattle.lent.specs.Storage.{zeros}
 use Rattle.syntax.specs.declared.job_ends.JobEnds.{JobEnds}
 use Rattle.syntax.specs.declared.numerals.Numerals.{Numerals}
 use Rattle.linking.specs.Linking.{programLinked}
-use Rattle.forward.specs.Running.{RanAnswer, runInputs}
-use Rattle.forward.specs.declared.ran.Ran.{Ran}
-use Rattle.forward.specs.declared.ran.Ran.the-variants.{Value as RanValue, Over as RanOver, NotWithin as RanNotWithin}
+use Rattle.running.specs.Answers.{RanAnswer}
+use Rattle.forward.specs.Running.{runInputs}
+use Rattle.running.specs.declared.ran.Ran.{Ran}
+use Rattle.running.specs.declared.ran.Ran.the-variants.{Value as RanValue, Over as RanOver, NotWithin as RanNotWithin}
 use Rattle.resolve.specs.RunAnswer.{RunLeft}
 use Rattle.texts.specs.BothCells.{BothAnswer, bothOver}
 use Rattle.texts.specs.declared.both.Both.{Both}

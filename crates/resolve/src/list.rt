@@ -3,12 +3,12 @@
 use answers::list::Answer;
 use answers::list::unstopped;
 use initial::begin::main_body;
+use lent::clear::clear;
 use linking::program::link_program;
 use texts::both::Both;
 use texts::both::read_both;
-use texts::clear::clear;
-use walk::found::Ending;
-use walk::found::Walked;
+use turns::found::Ending;
+use turns::found::Walked;
 use walk::job::walk_job;
 ghost use mathlib.Core.Path.{_≡_};
 ghost use Rattle.language.specs.Source.{SProg, SJob, prog, class};

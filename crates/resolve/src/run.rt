@@ -2,11 +2,11 @@
 // N." What it answers and leaves is defined in specs/RunAnswer.antt.
 use answers::run::Answer;
 use forward::inputs::run_inputs;
-use forward::ran::Ran;
+use lent::clear::clear;
 use linking::program::link_program;
+use running::ran::Ran;
 use texts::both::Both;
 use texts::both::read_both;
-use texts::clear::clear;
 ghost use mathlib.Core.Path.{_≡_};
 ghost use Rattle.resolve.specs.RunAnswer.{runLeft};
 ghost use Rattle.resolve.specs.RunCells.{answerRan, RunOut, runTexts};

@@ -8,7 +8,7 @@ use lib.Seq.{length-take-le, take-at, getD-take}
 use Rattle.expressions.specs.Expression.{Exp}
 use Rattle.expressions.specs.Restriction.{Restriction}
 use Rattle.sets.proofs.RestrictionLaws.{Front, front-room}
-use Rattle.heap.proofs.RunLaws.{Below, below-self}
+use Rattle.runs.proofs.RunLaws.{Below, below-self}
 use Rattle.heap.proofs.FrameLaws.{Held, held-front}
 use Rattle.saving.specs.Saving.{loaded}
 use Rattle.saving.specs.Records.{Record, Holding}

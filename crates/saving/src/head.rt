@@ -19,13 +19,6 @@ pub struct Node {
     pub depth: usize,
 }
 
-// The difference of two numbers, and 0 below it.
-pub(crate) fn less(a: usize, b: usize) -> usize
-    ensures { λ r. ⌜ r ≡ a - b ⌝ }
-{
-    if a < b { 0 } else { a - b }
-}
-
 // The cells of so many entries, as far as a frame has them.
 pub(crate) fn entry_cells(entries: usize) -> usize
     ensures { λ r. ⌜ r ≡ entryCells entries ⌝ }
@@ -44,7 +37,7 @@ pub(crate) fn side_cells(neqs: usize) -> usize
 pub(crate) fn head_start(top: usize) -> usize
     ensures { λ r. ⌜ r ≡ headStart top ⌝ }
 {
-    less(cell::least(top, LENGTH), HEAD)
+    cell::less(cell::least(top, LENGTH), HEAD)
 }
 
 // The cell k of the head that begins at h; 0 past the end.
@@ -114,5 +107,5 @@ pub(crate) fn begins_at(saved: &[u16; 16384], top: usize) -> usize
     let h = head_start(top);
     let sides = side_cells(number(saved, h, 6));
     let entries = entry_cells(number(saved, h, 4));
-    less(less(h, sides), entries)
+    cell::less(cell::less(h, sides), entries)
 }

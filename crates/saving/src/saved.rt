@@ -121,7 +121,7 @@ pub fn load(saved: &[u16; 16384], top: usize, frame: &mut [u16; 12360], q: &mut 
     let entries = head::entry_cells(c.entries);
     let sides = head::side_cells(c.neqs);
     let from = head::begins_at(saved, top);
-    let s = head::less(h, sides);
+    let s = cell::less(h, sides);
     cell::copy(saved, from, entries, frame, 0);
     cell::copy(saved, s, sides, q, 0);
     Back { node: n, top: from }

@@ -12,7 +12,7 @@ use borrow.Author.Tests.{eqb-true, eqb-false, eq-eqb, ne-eqb, le-leb, lt-leb}
 use Rattle.expressions.specs.Expression.{AtomicExp, sym, avar, Exp, atm, evar, pair, nodes, nodesAll}
 use Rattle.expressions.specs.Restriction.{Restriction, nodesRestriction}
 use Rattle.expressions.specs.Intersection.{occurs}
-use Rattle.sets.specs.Cells.{pairCode, evarCode, atomicCode, cells, cellsAll, restrictionCells, part, notCopied, copied, walkTrees, treeEnd, sameRun, anyCell}
+use Rattle.sets.specs.Cells.{pairCode, evarCode, atomicCode, cells, cellsAll, restrictionCells, part, notCopied, copied, walkTrees, treeEnd, anyCell}
 
 -- the codes tell the kinds of node apart, and the nodes of a kind
 pub atomic-not-pair : (x : AtomicExp) → atomicCode x ≡ pairCode → ⊥
@@ -119,44 +119,6 @@ module _ {s : List ℕ} {at : ℕ} {c d : Exp} {rest : List ℕ} (t : Stands s a
 
   pub tail-stands : Stands s (treeEnd s (at + 1)) d rest
   tail-stands = record { here = stands-behind head-stands }
-
--- what `same_run` answers, for cells of any content ..
-both-true : (a b : Bool) → cond a b false ≡ true → (a ≡ true) × (b ≡ true)
-both-true true b e = (refl, e)
-both-true false b e = (e, cc)
-
-pub same-take : (n : ℕ) (a b : List ℕ) → sameRun n a b ≡ true → take n a ≡ take n b
-unfolding sameRun
-same-take zero a b e = refl
-same-take (suc n) [] [] e = refl
-same-take (suc n) [] (y ∷ b) e = cc
-same-take (suc n) (x ∷ a) [] e = cc
-same-take (suc n) (x ∷ a) (y ∷ b) e =
-    let r = both-true (eqb x y) (sameRun n a b) e in
-    ap₂ {C = List ℕ} _∷_ (eqb-true x y (r .0)) (same-take n a b (r .1))
-
-pub take-same : (n : ℕ) (a b : List ℕ) → take n a ≡ take n b → sameRun n a b ≡ true
-unfolding sameRun
-take-same zero a b e = refl
-take-same (suc n) [] [] e = refl
-take-same (suc n) [] (y ∷ b) e = cc
-take-same (suc n) (x ∷ a) [] e = cc
-take-same (suc n) (x ∷ a) (y ∷ b) e = rw (eq-eqb x y (heads e)) (take-same n a b (tails e))
-
--- .. and of two trees, as many cells as one of them has
-pub same-trees : (c d : Exp) (r s : List ℕ) → (sameRun (nodes c) (cells c ++ r) (cells d ++ s) ≡ true) ↔ (c ≡ d)
-same-trees c d r s = (to, of)
-  where
-    front : (e : Exp) (t : List ℕ) → take (nodes e) (cells e ++ t) ≡ cells e
-    front e t = rw (← (cells-nodes e)) (take-append-seam (cells e) t)
-
-    to : sameRun (nodes c) (cells c ++ r) (cells d ++ s) ≡ true → c ≡ d
-    to e =
-        let f : cells c ≡ take (nodes c) (cells d ++ s) = inv (front c r) ∙ same-take (nodes c) _ _ e in
-        cells-prefix c d (drop (nodes c) (cells d ++ s)) s (rw f (take-append-drop (nodes c) (cells d ++ s))) .0
-
-    of : c ≡ d → sameRun (nodes c) (cells c ++ r) (cells d ++ s) ≡ true
-    of e = take-same (nodes c) _ _ (rw (front c r, e, front d s))
 
 any-append : (x : ℕ) (s t : List ℕ) → anyCell x (s ++ t) ≡ (anyCell x s || anyCell x t)
 unfolding anyCell

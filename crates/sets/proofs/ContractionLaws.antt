@@ -1,4 +1,4 @@
--- What the codes of expressions, contractions and splits mean.
+-- What the codes of expressions, and contractions mean.
 use Prim.Native.Nat.{ℕ, _+_, _*_, _/_, _%_, _≤_, _<_}
 use mathlib.Core.Path.{_≡_, refl}
 use mathlib.Core.Bool.{Bool, true, false, cond}
@@ -8,10 +8,8 @@ use borrow.Author.Tests.{ne-eqb}
 use Rattle.expressions.specs.Expression.{AtomicExp, sym, avar, atm, evar}
 use Rattle.expressions.specs.Restriction.{sameAtomic}
 use Rattle.expressions.specs.Contraction.{identity, bindE, bindA, mkBind, equalityContraction}
-use Rattle.expressions.specs.Split.{takeNumbers, splitAtomic, splitExp}
 use Rattle.sets.specs.Cells.{evarCode, avarCode, symbolCode, atomicCode}
-use Rattle.sets.specs.Counting.{fresh}
-use Rattle.sets.specs.Contracting.{atomicOf, leafOf, contractionOf, equality, splitAtomicCodes, splitExpCodes}
+use Rattle.sets.specs.Contracting.{atomicOf, leafOf, contractionOf, equality}
 use Rattle.sets.specs.declared.contraction.Contraction.the-variants.{Identity, Contradiction, Bind}
 use Rattle.sets.proofs.CellLaws.{code-test}
 
@@ -60,23 +58,3 @@ equality-means x y = rw (atomicCode-same x y) (pick (sameAtomic x y))
         (cond (eqb (atomicCode y % 4) 3) (Bind (atomicCode y) (atomicCode x)) Contradiction))) ≡ cond t identity (mkBind x y)
     pick true = refl
     pick false = unequal x y
-
-module _ (x y : AtomicExp) where
-  pub splitAtomic-yes : contractionOf (splitAtomicCodes (atomicCode x) (atomicCode y) .yes) ≡ splitAtomic x y .yes
-  splitAtomic-yes = equality-means x y
-
-  pub splitAtomic-no : contractionOf (splitAtomicCodes (atomicCode x) (atomicCode y) .no) ≡ splitAtomic x y .no
-  splitAtomic-no = rw (atomicOf-code x, atomicOf-code y)
-
--- Up to 16,381 each of the three numbers has a code.
-module _ (n k : ℕ) (coded : k ≤ 16381) where
-  pub splitExp-yes : contractionOf (splitExpCodes (evarCode n) (fresh k) .yes) ≡ splitExp n (takeNumbers k) .yes
-  splitExp-yes =
-      let h : k % 16384 ≡ k = omega arith in
-      let t : (k + 1) % 16384 ≡ k + 1 = omega arith in
-      rw (code-number n 2 (omega arith), h, t, leafOf-evar k, leafOf-evar (k + 1))
-
-  pub splitExp-no : contractionOf (splitExpCodes (evarCode n) (fresh k) .no) ≡ splitExp n (takeNumbers k) .no
-  splitExp-no =
-      let a : (k + 2) % 16384 ≡ k + 2 = omega arith in
-      rw (bindE-means n, a, leafOf-atomic (avar (k + 2)))

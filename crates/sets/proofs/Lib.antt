@@ -5,4 +5,3 @@ pub mod CounterLaws
 pub mod ContractionLaws
 pub mod RestrictionTurns
 pub mod RestrictionLaws
-pub mod Lengths

@@ -12,16 +12,16 @@ use lib.ListN.{length, take, drop, getD, set, length-append, length-take, length
 use lib.Seq.{take-suc-set, drop-set-lt, take-at, drop-at}
 use borrow.Author.Tests.{lt-leb, leb-true}
 use Rattle.expressions.specs.Expression.{AtomicExp, sym, avar}
-use Rattle.expressions.specs.Substitution.{substA}
+use Rattle.expressions.specs.Substitution.{applyAtomic, substA}
 use Rattle.expressions.specs.Restriction.{NonEquality, Restriction, sameAtomic, sameNonEquality, stands, isSymbol, Kind, contradiction, redundant, kept, kind, keepOrDrop, simplifyAfter, simplify, add, applyNonEquality, substRestriction}
-use Rattle.sets.specs.Cells.{avarCode, atomicCode, restrictionCells}
+use Rattle.sets.specs.Cells.{avarCode, atomicCode, restrictionCells, anyCell}
 use Rattle.sets.specs.Fill.{renamed}
 use Rattle.sets.specs.Restricting.{RestrictAnswer, restrictAnswer, eitherOrder, standsCells, kindCells, appendCells, addKind, addCells, simplifyKind, simplifyFrom, simplifyCells, bindCells}
 use Rattle.sets.specs.declared.restriction.Kind.{Kind as CodedKind}
 use Rattle.sets.specs.declared.restriction.Kind.the-variants.{Contradiction as Contradictory, Redundant, Kept as Keep}
 use Rattle.sets.specs.declared.restriction.Restricted.the-variants.{Kept, Contradiction, Full}
 use Rattle.expressions.proofs.Combination.{simplify-append}
-use Rattle.sets.proofs.CellLaws.{restrictionCells-nodes}
+use Rattle.sets.proofs.CellLaws.{code-test, restrictionCells-nodes}
 use Rattle.sets.proofs.FillLaws.{renamed-restriction}
 use Rattle.sets.proofs.ContractionLaws.{code-tag, atomicCode-same}
 use Rattle.sets.proofs.RestrictionTurns.{two-cells}
@@ -218,19 +218,47 @@ addCells-full n x y q e = pick (kindCells n x y q) e
         room true l g = omega (arith, leb-true (length q / 2) n l)
         room false l g = let z : _≡_ {A = ℕ} 0 1 = cc in absurd (omega arith)
 
+-- where the variable stands nowhere the substitution changes nothing
+module _ (m : ℕ) (x : AtomicExp) where
+  not-filled : (a : AtomicExp) → eqb (atomicCode a) (avarCode m) ≡ false → applyAtomic (substA m x) a ≡ a
+  not-filled (sym z) e = refl
+  not-filled (avar k) e = let t : eqb k m ≡ false = inv (code-test 3 k m) ∙ e in rw t
+
+  stands-nowhere : (qs : Restriction) → anyCell (avarCode m) (restrictionCells qs) ≡ false → map (applyNonEquality (substA m x)) qs ≡ qs
+  unfolding anyCell
+  stands-nowhere [] e = refl
+  stands-nowhere (r ∷ qs) e = pick (eqb (atomicCode (r .left)) (avarCode m)) (eqb (atomicCode (r .right)) (avarCode m)) refl refl (stands-nowhere qs) e
+    where
+      pick : (a b : Bool) → eqb (atomicCode (r .left)) (avarCode m) ≡ a → eqb (atomicCode (r .right)) (avarCode m) ≡ b →
+          (anyCell (avarCode m) (restrictionCells qs) ≡ false → map (applyNonEquality (substA m x)) qs ≡ qs) → cond a true (cond b true (anyCell (avarCode m) (restrictionCells qs))) ≡ false →
+          applyNonEquality (substA m x) r ∷ map (applyNonEquality (substA m x)) qs ≡ r ∷ qs
+      pick true b u v rest w = let z : _≡_ {A = ℕ} 0 1 = cc in absurd (omega arith)
+      pick false true u v rest w = let z : _≡_ {A = ℕ} 0 1 = cc in absurd (omega arith)
+      pick false false u v rest w = rw (not-filled (r .left) u, not-filled (r .right) v, rest w)
+
 -- substitution for a variable that stands for an atom
-pub bindCells-means : (m : ℕ) (x : AtomicExp) (qs : Restriction) (q : List ℕ) → Front qs q →
-    Answers (length qs) q (substRestriction (substA m x) qs) (bindCells (length qs) (avarCode m) (atomicCode x) q)
-bindCells-means m x qs q f =
-    let ps = map (applyNonEquality (substA m x)) qs in
-    let rest = drop (2 * length qs) q in
-    let s = restrictionCells ps ++ rest in
-    let n : length ps ≡ length qs = length-map qs (applyNonEquality (substA m x)) in
-    let e : min (length qs) (length q / 2) ≡ length qs = omega (arith, front-room qs q f) in
-    let whole : restrictionCells qs ++ rest ≡ q = rw (← f) (take-append-drop (2 * length qs) q) in
-    let filled : renamed (2 * length qs) (avarCode m) (atomicCode x) q ≡ s = rw whole at (renamed-restriction m x qs rest) in
-    let sized : length (restrictionCells ps) ≡ 2 * length qs = restrictionCells-nodes ps ∙ ap (λ (k : ℕ). 2 * k) n in
-    let size : length s ≡ length q =
-    omega (arith, length-append (restrictionCells ps) rest, ap length whole, length-append (restrictionCells qs) rest, restrictionCells-nodes qs, sized) in
-    rw (e, filled) (answers-same (length qs) s q (drop-at (restrictionCells ps) rest (2 * length qs) sized) size
-    (simplify ps) (simplifyCells (length qs) s) (rw n at (simplifyCells-means ps s (take-at (restrictionCells ps) rest (2 * length ps) (restrictionCells-nodes ps)))))
+module _ (m : ℕ) (x : AtomicExp) (qs : Restriction) (q : List ℕ) (f : Front qs q) where
+  renamed-means : Answers (length qs) q (substRestriction (substA m x) qs) (simplifyCells (length qs) (renamed (2 * length qs) (avarCode m) (atomicCode x) q))
+  renamed-means =
+      let ps = map (applyNonEquality (substA m x)) qs in
+      let rest = drop (2 * length qs) q in
+      let s = restrictionCells ps ++ rest in
+      let n : length ps ≡ length qs = length-map qs (applyNonEquality (substA m x)) in
+      let whole : restrictionCells qs ++ rest ≡ q = rw (← f) (take-append-drop (2 * length qs) q) in
+      let filled : renamed (2 * length qs) (avarCode m) (atomicCode x) q ≡ s = rw whole at (renamed-restriction m x qs rest) in
+      let sized : length (restrictionCells ps) ≡ 2 * length qs = restrictionCells-nodes ps ∙ ap (λ (k : ℕ). 2 * k) n in
+      let size : length s ≡ length q =
+      omega (arith, length-append (restrictionCells ps) rest, ap length whole, length-append (restrictionCells qs) rest, restrictionCells-nodes qs, sized) in
+      rw filled (answers-same (length qs) s q (drop-at (restrictionCells ps) rest (2 * length qs) sized) size
+      (simplify ps) (simplifyCells (length qs) s) (rw n at (simplifyCells-means ps s (take-at (restrictionCells ps) rest (2 * length ps) (restrictionCells-nodes ps)))))
+
+  pub bindCells-means : simplify qs ≡ some qs → Answers (length qs) q (substRestriction (substA m x) qs) (bindCells (length qs) (avarCode m) (atomicCode x) q)
+  bindCells-means simple =
+      let e : min (length qs) (length q / 2) ≡ length qs = omega (arith, front-room qs q f) in
+      let n : 2 * length qs - 0 ≡ 2 * length qs = omega arith in
+      rw (e, n, f) (pick (anyCell (avarCode m) (restrictionCells qs)) refl)
+    where
+      pick : (t : Bool) → anyCell (avarCode m) (restrictionCells qs) ≡ t → Answers (length qs) q (substRestriction (substA m x) qs)
+          (cond t (simplifyCells (length qs) (renamed (2 * length qs) (avarCode m) (atomicCode x) q)) (restrictAnswer (Kept (length qs)) q))
+      pick true e = renamed-means
+      pick false e = rw (stands-nowhere m x qs e, simple) (refl, f, omega arith, refl, refl)

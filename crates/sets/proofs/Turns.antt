@@ -1,18 +1,17 @@
 -- One turn of each loop over cells, as a step of what its function is equated with.
-use Prim.Native.Nat.{ℕ, zero, suc, _+_, _-_, _≤_, _<_, min}
+use Prim.Native.Nat.{ℕ, zero, suc, _+_, _-_, _*_, _≤_, _<_, min}
 use mathlib.Core.Path.{_≡_, refl, ap}
-use mathlib.Core.Bool.{true, false, cond}
+use mathlib.Core.Bool.{Bool, true, false, cond}
 use mathlib.Core.List.{List, [], _∷_}
 use native.Mathlib.Omega.{arith}
 use native.Mathlib.Decide.{decLe}
 use native.Mathlib.Numerals.{add-one}
-use lib.Dec.{leb, eqb}
+use lib.Dec.{leb, ltb, eqb}
 use lib.ListN.{length, drop, getD, set, drop-of-length-le}
 use lib.Seq.{drop-cons, take-nil}
-use borrow.Author.Tests.{eq-eqb, ne-eqb, le-leb, lt-leb, lt-ltb, le-ltb}
-use Rattle.sets.specs.Cells.{part, walkTrees, sameRun, anyCell}
-use Rattle.sets.specs.Fill.{fillAnswer, fillOne, fillFrom, filled, renamed}
-use Rattle.sets.specs.declared.fill.Filled.the-variants.{Done, Over}
+use borrow.Author.Tests.{eq-eqb, ne-eqb, le-leb, lt-leb, lt-ltb, le-ltb, ltb-false, leb-false}
+use Rattle.sets.specs.Cells.{part, onePair, fourPairs, behindFour, walkTrees, anyCell}
+use Rattle.sets.specs.Fill.{renamed}
 
 -- the part from i on: a cell and the part behind it, or nothing
 pub part-cons : (s : List ℕ) (i to : ℕ) → i < min to (length s) → part i to s ≡ getD s i 0 ∷ part (i + 1) to s
@@ -49,50 +48,52 @@ module _ (s : List ℕ) (i : ℕ) (in-s : i < length s) where
   walk-leaf zero next p e q = absurd (p refl)
   walk-leaf (suc k) next p e q = let n : next ≡ k = omega arith in rw (add-one i, drop-cons s i 0, ne-eqb (getD s i 0) 4, n)
 
-pub same-none : (left : ℕ) (a b : List ℕ) → left ≤ 0 → sameRun left a b ≡ true
-unfolding sameRun
-same-none left a b h = let e : left ≡ 0 = omega arith in rw e
+-- four cells on, where the needed trees do not end in them
+one-at-most : (b : Bool) → cond b 1 0 ≤ 1
+one-at-most true = omega arith
+one-at-most false = omega arith
 
-module _ (a b : List ℕ) (p q left : ℕ) (more : 0 < left) where
-  module _ (in-a : p < length a) (in-b : q < length b) where
-    pub same-step : getD a p 0 ≡ getD b q 0 → sameRun left (drop p a) (drop q b) ≡ sameRun (left - 1) (drop (p + 1) a) (drop (q + 1) b)
-    unfolding sameRun
-    same-step e =
-        let l : left ≡ suc (left - 1) = omega arith in
-        let g : sameRun (suc (left - 1)) (drop p a) (drop q b) ≡ sameRun (left - 1) (drop (p + 1) a) (drop (q + 1) b) =
-        rw (add-one p, add-one q, drop-cons a p 0, drop-cons b q 0, eq-eqb (getD a p 0) (getD b q 0) e) in
-        cc
-
-    pub same-apart : (getD a p 0 ≡ getD b q 0 → ⊥) → sameRun left (drop p a) (drop q b) ≡ false
-    unfolding sameRun
-    same-apart e =
-        let l : left ≡ suc (left - 1) = omega arith in
-        let g : sameRun (suc (left - 1)) (drop p a) (drop q b) ≡ false =
-        rw (drop-cons a p 0, drop-cons b q 0, ne-eqb (getD a p 0) (getD b q 0) e) in
-        cc
-
-  pub same-short : p < length a → length b ≤ q → sameRun left (drop p a) (drop q b) ≡ false
-  unfolding sameRun
-  same-short in-a h =
-      let l : left ≡ suc (left - 1) = omega arith in
-      let g : sameRun (suc (left - 1)) (drop p a) (drop q b) ≡ false = rw (drop-cons a p 0, drop-of-length-le b h) in
-      cc
-
-  pub same-end : length a ≤ p → sameRun left (drop p a) (drop q b) ≡ leb (length b) q
-  unfolding sameRun
-  same-end h = go (decLe (length b) q)
+module _ (s : List ℕ) where
+  walk-one : (i need j next : ℕ) → i < length s → 0 < need → j ≡ i + 1 → next ≡ need + 2 * onePair (getD s i 0) - 1 → walkTrees (drop i s) need ≡ 1 + walkTrees (drop j s) next
+  unfolding walkTrees
+  walk-one i zero j next l p e f = absurd (omega arith)
+  walk-one i (suc k) j next l p e f = rw (e, f, add-one i, drop-cons s i 0 l) (ap (λ (n : ℕ). 1 + walkTrees (drop (suc i) s) n) (pick (eqb (getD s i 0) 4)))
     where
-      l : left ≡ suc (left - 1)
-      l = omega arith
+      pick : (b : Bool) → cond b (suc (suc k)) k ≡ suc k + 2 * cond b 1 0 - 1
+      pick true = omega arith
+      pick false = omega arith
 
-      go : Dec (length b ≤ q) → sameRun left (drop p a) (drop q b) ≡ leb (length b) q
-      go (yes y) =
-          let g : sameRun (suc (left - 1)) (drop p a) (drop q b) ≡ leb (length b) q = rw (drop-of-length-le a h, drop-of-length-le b y, le-leb (length b) q y) in
-          cc l
-      go (no n) =
-          let in-b : q < length b = omega arith in
-          let g : sameRun (suc (left - 1)) (drop p a) (drop q b) ≡ leb (length b) q = rw (drop-of-length-le a h, drop-cons b q 0, lt-leb (length b) q in-b) in
-          cc l
+  pub walk-four : (i need n : ℕ) → n ≡ behindFour s i need → 0 < n → (i + 4 ≤ length s) × (n ≤ need + 4) × (walkTrees (drop i s) need ≡ 4 + walkTrees (drop (i + 4) s) n)
+  walk-four i need n e more = pick (ltb (length s) 4) (ltb (length s - 4) i) (leb (need + fourPairs s i) 4) refl refl refl e
+    where
+      small : (c : ℕ) → onePair c ≤ 1
+      small c = one-at-most (eqb c 4)
+
+      pick : (a b c : Bool) → ltb (length s) 4 ≡ a → ltb (length s - 4) i ≡ b → leb (need + fourPairs s i) 4 ≡ c → n ≡ cond a 0 (cond b 0 (cond c 0 (need + 2 * fourPairs s i - 4))) →
+          (i + 4 ≤ length s) × (n ≤ need + 4) × (walkTrees (drop i s) need ≡ 4 + walkTrees (drop (i + 4) s) n)
+      pick true b c u v w z = absurd (omega arith)
+      pick false true c u v w z = absurd (omega arith)
+      pick false false true u v w z = absurd (omega arith)
+      pick false false false u v w z =
+          let here : i + 4 ≤ length s = omega (arith, ltb-false (length s) 4 u, ltb-false (length s - 4) i v) in
+          let deep : 4 < need + fourPairs s i = leb-false (need + fourPairs s i) 4 w in
+          let a = small (getD s i 0) in
+          let b = small (getD s (i + 1) 0) in
+          let c = small (getD s (i + 2) 0) in
+          let d = small (getD s (i + 3) 0) in
+          let k = need + 2 * onePair (getD s i 0) - 1 in
+          let l = k + 2 * onePair (getD s (i + 1) 0) - 1 in
+          let m = l + 2 * onePair (getD s (i + 2) 0) - 1 in (
+            here,
+            omega (arith, a, b, c, d, deep),
+            omega (
+              arith,
+              walk-one i need (i + 1) k (omega arith) (omega (arith, a, b, c, d, deep)) refl refl,
+              walk-one (i + 1) k (i + 2) l (omega arith) (omega (arith, a, b, c, d, deep)) (omega arith) refl,
+              walk-one (i + 2) l (i + 3) m (omega arith) (omega (arith, a, b, c, d, deep)) (omega arith) refl,
+              walk-one (i + 3) m (i + 4) n (omega arith) (omega (arith, a, b, c, d, deep)) (omega arith) (omega (arith, a, b, c, d, deep)),
+            ),
+          )
 
 module _ (s : List ℕ) (i to x : ℕ) where
   pub any-here : i < min to (length s) → getD s i 0 ≡ x → anyCell x (part i to s) ≡ true
@@ -106,26 +107,6 @@ module _ (s : List ℕ) (i to x : ℕ) where
   pub any-none : min to (length s) ≤ i → anyCell x (part i to s) ≡ false
   unfolding anyCell
   any-none h = rw (part-end s i to h)
-
--- before the first turn
-module _ (src : List ℕ) (from to x : ℕ) (v : List ℕ) (limit at : ℕ) (d : List ℕ) where
-  pub filled-none : min limit (length d) < at → filled src from to x v limit at d ≡ fillAnswer Over d
-  unfolding filled
-  filled-none h = rw (lt-ltb (min limit (length d)) at h)
-
-  pub filled-start : at ≤ min limit (length d) → filled src from to x v limit at d ≡ fillFrom x v (min limit (length d)) (part from to src) at d
-  unfolding filled
-  filled-start h = rw (le-ltb (min limit (length d)) at h)
-
-module _ (s : List ℕ) (i to : ℕ) where
-  pub fill-cell : i < min to (length s) → (x : ℕ) (v : List ℕ) (room k : ℕ) (d : List ℕ) →
-      fillFrom x v room (part i to s) k d ≡ fillOne (eqb (getD s i 0) x) (fillFrom x v room (part (i + 1) to s)) v room (getD s i 0) k d
-  unfolding fillFrom
-  fill-cell h x v room k d = rw (part-cons s i to h)
-
-  pub fill-end : min to (length s) ≤ i → (x : ℕ) (v : List ℕ) (room k : ℕ) (d : List ℕ) → fillFrom x v room (part i to s) k d ≡ fillAnswer (Done k) d
-  unfolding fillFrom
-  fill-end h x v room k d = rw (part-end s i to h)
 
 module _ (x y : ℕ) where
   pub renamed-none : (s : List ℕ) → renamed 0 x y s ≡ s

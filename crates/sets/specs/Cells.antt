@@ -3,8 +3,8 @@ use Prim.Native.Nat.{ℕ, zero, suc, _+_, _-_, _*_}
 use mathlib.Core.Path.{_≡_}
 use mathlib.Core.Bool.{Bool, true, false, cond, _&&_}
 use mathlib.Core.List.{List, [], _∷_, _++_}
-use lib.Dec.{eqb, leb}
-use lib.ListN.{length, take, drop}
+use lib.Dec.{eqb, leb, ltb}
+use lib.ListN.{length, take, drop, getD}
 use lib.Seq.{paste}
 use Rattle.expressions.specs.Expression.{AtomicExp, sym, avar, Exp, atm, evar, pair}
 use Rattle.expressions.specs.Restriction.{Restriction}
@@ -69,13 +69,15 @@ unfoldable pub treeEnd : List ℕ → ℕ → ℕ
 unfolding walkTrees
 treeEnd s at = at + walkTrees (drop at s) 1
 
--- the same first n cells, or the same fewer
-unfoldable pub sameRun : ℕ → List ℕ → List ℕ → Bool
-sameRun zero a b = true
-sameRun (suc n) [] [] = true
-sameRun (suc n) [] (y ∷ b) = false
-sameRun (suc n) (x ∷ a) [] = false
-sameRun (suc n) (x ∷ a) (y ∷ b) = cond (eqb x y) (sameRun n a b) false
+-- what is needed behind four cells, where they are there and the needed trees do not end in them; else 0
+abbrev pub onePair : ℕ → ℕ
+onePair c = cond (eqb c 4) 1 0
+
+abbrev pub fourPairs : List ℕ → ℕ → ℕ
+fourPairs s i = onePair (getD s i 0) + onePair (getD s (i + 1) 0) + onePair (getD s (i + 2) 0) + onePair (getD s (i + 3) 0)
+
+abbrev pub behindFour : List ℕ → ℕ → ℕ → ℕ
+behindFour s i need = cond (ltb (length s) 4) 0 (cond (ltb (length s - 4) i) 0 (cond (leb (need + fourPairs s i) 4) 0 (need + 2 * fourPairs s i - 4)))
 
 unfoldable pub anyCell : ℕ → List ℕ → Bool
 anyCell x [] = false

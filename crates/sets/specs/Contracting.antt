@@ -4,10 +4,8 @@ use mathlib.Core.Bool.{Bool, true, false, cond}
 use lib.Dec.{eqb}
 use Rattle.expressions.specs.Expression.{AtomicExp, sym, avar, Exp, atm, evar, pair}
 use Rattle.expressions.specs.Contraction.{Contraction, identity, contra, bindE, bindA, nonEqual}
-use Rattle.sets.specs.declared.counter.Fresh.{Fresh}
 use Rattle.sets.specs.declared.contraction.Contraction.{Contraction as Coded}
 use Rattle.sets.specs.declared.contraction.Contraction.the-variants.{Identity, Contradiction, Bind, BindPair, NonEqual}
-use Rattle.sets.specs.declared.contraction.Split.{Split as CodedSplit}
 
 -- the atomic expression of a code, and the leaf; of no such code a symbol
 abbrev pub atomicOf : ℕ → AtomicExp
@@ -31,11 +29,6 @@ contractionOf (NonEqual left right) = nonEqual (atomicOf left) (atomicOf right)
 abbrev pub equality : ℕ → ℕ → Coded
 equality x y = cond (eqb x y) Identity (cond (eqb (x % 4) 3) (Bind x y) (cond (eqb (y % 4) 3) (Bind y x) Contradiction))
 
-abbrev pub splitAtomicCodes : ℕ → ℕ → CodedSplit
-splitAtomicCodes x y = record { yes = equality x y; no = NonEqual x y }
-
+-- the code of a number and a tag
 abbrev pub codeOf : ℕ → ℕ → ℕ
 codeOf n tag = 4 * (n % 16384) + tag
-
-abbrev pub splitExpCodes : ℕ → Fresh → CodedSplit
-splitExpCodes x f = record { yes = BindPair x (codeOf (f .head) 2) (codeOf (f .tail) 2); no = Bind x (codeOf (f .atom) 3) }

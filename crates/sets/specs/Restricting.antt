@@ -5,6 +5,7 @@ use mathlib.Core.Bool.{Bool, true, false, cond}
 use mathlib.Core.List.{List, [], _∷_}
 use lib.Dec.{eqb, leb}
 use lib.ListN.{length, getD, set}
+use Rattle.sets.specs.Cells.{standsIn}
 use Rattle.sets.specs.Fill.{renamed}
 use Rattle.sets.specs.declared.restriction.Kind.{Kind}
 use Rattle.sets.specs.declared.restriction.Kind.the-variants.{Contradiction as Contradictory, Redundant, Kept as Keep}
@@ -60,5 +61,8 @@ simplifyFrom (suc left) i kept q =
 abbrev pub simplifyCells : ℕ → List ℕ → RestrictAnswer
 simplifyCells n q = simplifyFrom (min n (length q / 2)) 0 0 q
 
+-- where x does not stand they are as they were: simplified
 abbrev pub bindCells : ℕ → ℕ → ℕ → List ℕ → RestrictAnswer
-bindCells n x y q = simplifyCells (min n (length q / 2)) (renamed (2 * min n (length q / 2)) x y q)
+bindCells n x y q =
+    let count = min n (length q / 2) in
+    cond (standsIn q 0 (2 * count) x) (simplifyCells count (renamed (2 * count) x y q)) (restrictAnswer (Kept count) q)

@@ -1,14 +1,21 @@
-// Runs of cells: reading, storing, copying, comparing, and the end of a tree.
+// Runs of cells: reading, storing, copying, and the end of a tree.
 ghost use mathlib.Core.Path.{_≡_};
-ghost use Prim.Native.Nat.{min};
-ghost use lib.ListN.{getD, set, drop};
-ghost use Rattle.sets.specs.Cells.{copied, treeEnd, sameRun, standsIn};
+ghost use Prim.Native.Nat.{min, _+_, _-_, _≤_};
+ghost use lib.ListN.{length, getD, set};
+ghost use Rattle.sets.specs.Cells.{copied, onePair, fourPairs, behindFour, treeEnd, standsIn};
 
 // The smaller of two numbers.
 pub fn least(a: usize, b: usize) -> usize
     ensures { λ r. ⌜ r ≡ min a b ⌝ }
 {
     if a < b { a } else { b }
+}
+
+// The difference of two numbers, and 0 below it.
+pub fn less(a: usize, b: usize) -> usize
+    ensures { λ r. ⌜ r ≡ a - b ⌝ }
+{
+    if a < b { 0 } else { a - b }
 }
 
 // The code of a pair: its two trees follow.
@@ -54,6 +61,41 @@ pub fn copy(src: &[u16], from: usize, n: usize, dst: &mut [u16], at: usize) -> b
     true
 }
 
+// 1 for a pair.
+fn is_pair(code: u16) -> u16
+    ensures { λ r. ⌜ (r ≡ onePair code) × (r ≤ 1) ⌝ }
+{
+    if code == PAIR { 1 } else { 0 }
+}
+
+// How many of the four cells from i on are pairs.
+fn pairs(s: &[u16], i: usize) -> usize
+    requires { ⌜ i + 4 ≤ length (now s) ⌝ }
+    ensures { λ r. ⌜ (r ≡ fourPairs (now (s .entry)) i) × (r ≤ 4) ⌝ }
+{
+    let n = is_pair(s[i]) + is_pair(s[i + 1]) + is_pair(s[i + 2]) + is_pair(s[i + 3]);
+    n as usize
+}
+
+// How many trees are needed behind the next four cells, where they are there and the needed ones do not end in them; else 0. Without a
+// branch for each cell: the compiler looks at the four at once.
+fn behind_four(s: &[u16], i: usize, need: usize) -> usize
+    requires { ⌜ need ≤ i + 1 ⌝ }
+    ensures { λ r. ⌜ r ≡ behindFour (now (s .entry)) i need ⌝ }
+{
+    if s.len() < 4 {
+        return 0;
+    }
+    if s.len() - 4 < i {
+        return 0;
+    }
+    let p = pairs(s, i);
+    if need + p <= 4 {
+        return 0;
+    }
+    need + 2 * p - 4
+}
+
 // The place behind the tree that starts at `at`: where the cells run out or no more is needed.
 pub fn tree_end(s: &[u16], at: usize) -> usize
     ensures { λ r. ⌜ r ≡ treeEnd (now (s .entry)) at ⌝ }
@@ -64,6 +106,12 @@ pub fn tree_end(s: &[u16], at: usize) -> usize
         if need == 0 {
             return i;
         }
+        let n = behind_four(s, i, need);
+        if 0 < n {
+            need = n;
+            i += 4;
+            continue;
+        }
         if s[i] == PAIR {
             need += 1;
         } else {
@@ -72,30 +120,6 @@ pub fn tree_end(s: &[u16], at: usize) -> usize
         i += 1;
     }
     i
-}
-
-// Whether the n cells from i on in a are those from j on in b; where one runs out, the other must too.
-pub fn same_run(a: &[u16], i: usize, b: &[u16], j: usize, n: usize) -> bool
-    ensures { λ r. ⌜ r ≡ sameRun n (drop i (now (a .entry))) (drop j (now (b .entry))) ⌝ }
-{
-    let mut p = i;
-    let mut q = j;
-    let mut left = n;
-    while 0 < left {
-        if a.len() <= p {
-            return b.len() <= q;
-        }
-        if b.len() <= q {
-            return false;
-        }
-        if a[p] != b[q] {
-            return false;
-        }
-        p += 1;
-        q += 1;
-        left -= 1;
-    }
-    true
 }
 
 // Whether x stands in s from `from` on, before `to`.

@@ -1,8 +1,7 @@
-// Contractions and splits, over the codes of variables and symbols.
-use crate::counter::Fresh;
+// Contractions, over the codes of variables and symbols.
 ghost use mathlib.Core.Path.{_≡_};
 ghost use Prim.Native.Nat.{_+_, _*_, _%_};
-ghost use Rattle.sets.specs.Contracting.{equality, splitAtomicCodes, splitExpCodes};
+ghost use Rattle.sets.specs.Contracting.{equality};
 
 // A substitution of one variable, by one cell or by a pair of two, or a restriction by one non-equality; and the two
 // special contractions. What each means is `contractionOf` of specs/.
@@ -19,12 +18,6 @@ impl Contraction {
     pub const IDENTITY: Contraction = Contraction::Identity;
 
     pub const CONTRADICTION: Contraction = Contraction::Contradiction;
-}
-
-// The contraction of the true branch, and of the false one.
-pub struct Split {
-    pub yes: Contraction,
-    pub no: Contraction,
 }
 
 // The code of a number and a tag; numbers from 16,384 on have none.
@@ -48,32 +41,4 @@ pub fn equality_contraction(x: u16, y: u16) -> Contraction
         return Contraction::Bind { var: y, to: x };
     }
     Contraction::CONTRADICTION
-}
-
-// The split of an `eqa?`.
-pub fn split_atomic(x: u16, y: u16) -> Split
-    ensures { λ r. ⌜ r ≡ splitAtomicCodes x y ⌝ }
-{
-    let yes = equality_contraction(x, y);
-    Split {
-        yes: yes,
-        no: Contraction::NonEqual { left: x, right: y },
-    }
-}
-
-// The split of a `cons?` on the variable x: "true gives a pair of two fresh `?e`, false a fresh `?a`".
-pub fn split_exp(x: u16, f: Fresh) -> Split
-    ensures { λ r. ⌜ r ≡ splitExpCodes x f ⌝ }
-{
-    let head = code(f.head, 2);
-    let tail = code(f.tail, 2);
-    let atom = code(f.atom, 3);
-    Split {
-        yes: Contraction::BindPair {
-            var: x,
-            head: head,
-            tail: tail,
-        },
-        no: Contraction::Bind { var: x, to: atom },
-    }
 }

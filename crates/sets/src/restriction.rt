@@ -106,11 +106,14 @@ pub fn simplify(q: &mut [u16], n: usize) -> Restricted
     Restricted::Kept(kept)
 }
 
-// Binds the variable x to y in the first n non-equalities, and simplifies them.
+// Binds the variable x to y in the first n non-equalities, which are simplified, and simplifies them again where x stands in one.
 pub fn bind(q: &mut [u16], n: usize, x: u16, y: u16) -> Restricted
     ensures { λ r. ⌜ (let w = bindCells n x y (now (q .entry)) in (r ≡ w .answer) × (now (q .exit) ≡ w .cells)) ⌝ }
 {
     let count = cell::least(n, q.len() / 2);
-    fill::rename(q, 2 * count, x, y);
-    simplify(q, count)
+    if cell::stands_in(q, 0, 2 * count, x) {
+        fill::rename(q, 2 * count, x, y);
+        return simplify(q, count);
+    }
+    Restricted::Kept(count)
 }

@@ -2,17 +2,20 @@
 use Prim.Native.Nat.{ℕ, zero, suc, _+_, _-_, _≤_, _<_}
 use Prim.Native.String.{String}
 use mathlib.Core.Path.{_≡_, refl, ap, ap₂, subst, _∙_, sym as inv}
-use mathlib.Core.Bool.{Bool, true, false, _&&_, _||_, not}
+use mathlib.Core.Bool.{Bool, true, false, cond, _&&_, _||_, not}
 use mathlib.Core.List.{List, [], _∷_}
 use mathlib.Core.Option.{none, some}
 use native.Mathlib.Omega.{arith}
 use native.Mathlib.Nat.{add-assoc}
+use native.Mathlib.Decide.{ℕ-discrete}
 use lib.Dec.{eqb, leb, eqb·zero-suc, eqb·suc-zero, eqb·suc-suc}
-use lib.ListN.{length}
-use borrow.Author.Tests.{eqb-true}
+use lib.ListN.{length, getD, set, length-set, replicate, length-replicate, getD-replicate}
+use lib.Seq.{getD-set-same, getD-set-other}
+use borrow.Author.Tests.{eq-eqb, ne-eqb, eqb-true}
 use Rattle.expressions.specs.Expression.{Exp}
 use Rattle.language.specs.Bytes.{txt, unless, _orElse_}
 use Rattle.language.specs.Bytes as bytes
+use Rattle.language.specs.Words.{fits}
 use Rattle.language.specs.Tokens.{symbol, ename, aname, evariable, avariable, plain, ofJob, Token, keyOf}
 use Rattle.language.specs.Reader.{is, isA}
 use Rattle.language.specs.Scope.{isAtomic}
@@ -24,8 +27,8 @@ use Rattle.checker.specs.declared.check.Verdict.{Verdict}
 use Rattle.checker.specs.declared.check.Verdict.the-variants.{Fine}
 use Rattle.checker.specs.declared.check.Walked.{Walked}
 use Rattle.checker.specs.CheckAt.{first, judge, ahead, walked, arguments}
-use Rattle.syntax.specs.JobCheckAt as check
-use Rattle.syntax.specs.JobCheckAt.{datumAt, inputsAt, standsFrom, sidesAt}
+use Rattle.job_checker.specs.JobCheckAt as check
+use Rattle.job_checker.specs.JobCheckAt.{datumAt, inputsAt, markedFrom, standsFrom, sidesAt}
 use Rattle.syntax.proofs.CheckLaws.{coded, coded-first, coded-judge, first-fine, first-assoc, ahead-in, isA-other, exp-least, exp-most, keys, kinds, ats}
 use Rattle.syntax.proofs.TermLaws.{length-params}
 
@@ -92,8 +95,39 @@ and-assoc : (a b c : Bool) → (a && b && c) ≡ (a && (b && c))
 and-assoc true b c = refl
 and-assoc false b c = refl
 
+or-true : (a : Bool) → (a || true) ≡ true
+or-true true = refl
+or-true false = refl
+
+-- a cell is marked where its `?aK` stands
+module _ (kind num : ℕ → ℕ) where
+  marked-one : (cells : List ℕ) (j x : ℕ) → x < length cells → (t : Bool) → eqb (getD (cond t (set cells (num j) 1) cells) x 0) 1 ≡ (eqb (getD cells x 0) 1 || (t && eqb (num j) x))
+  marked-one cells j x l false = inv (or-none (eqb (getD cells x 0) 1))
+  marked-one cells j x l true = go (ℕ-discrete (num j) x)
+    where
+      go : Dec (num j ≡ x) → eqb (getD (set cells (num j) 1) x 0) 1 ≡ (eqb (getD cells x 0) 1 || eqb (num j) x)
+      go (yes e) =
+          ap (λ k. eqb (getD (set cells k 1) x 0) 1) e ∙ ap (λ c. eqb c 1) (getD-set-same cells x 1 0 l) ∙
+          inv (ap (λ b. eqb (getD cells x 0) 1 || b) (eq-eqb (num j) x e) ∙ or-true (eqb (getD cells x 0) 1))
+      go (no e) =
+          ap (λ c. eqb c 1) (getD-set-other cells (num j) x 1 0 (λ z. e (inv z))) ∙
+          inv (ap (λ b. eqb (getD cells x 0) 1 || b) (ne-eqb (num j) x e) ∙ or-none (eqb (getD cells x 0) 1))
+
+  length-marked : (t : Bool) (cells : List ℕ) (k : ℕ) → length (cond t (set cells k 1) cells) ≡ length cells
+  length-marked true cells k = length-set cells k 1
+  length-marked false cells k = refl
+
+  pub marked-stands : (left j x : ℕ) (cells : List ℕ) → x < length cells → eqb (getD (markedFrom kind num left j cells) x 0) 1 ≡ (eqb (getD cells x 0) 1 || standsFrom kind num left j x)
+  unfolding markedFrom standsFrom
+  marked-stands zero j x cells l = inv (or-none (eqb (getD cells x 0) 1))
+  marked-stands (suc left) j x cells l =
+      marked-stands left (j + 1) x (cond (eqb (kind j) 4) (set cells (num j) 1) cells) (omega (arith, length-marked (eqb (kind j) 4) cells (num j))) ∙
+      ap (λ b. b || standsFrom kind num left (j + 1) x) (marked-one cells j x l (eqb (kind j) 4)) ∙
+      or-assoc (eqb (getD cells x 0) 1) (eqb (kind j) 4 && eqb (num j) x) (standsFrom kind num left (j + 1) x)
+
 -- num gives the numbers of `?aK`, val those of numerals: a cell has no room for every numeral
-module _ (tok mtok : ℕ → Token) (n m : ℕ) (tool : Tool) (num val : ℕ → ℕ) (numbers : (i : ℕ) → isA avariable (tok i) ≡ true → num i ≡ tok i .num) where
+module _ (tok mtok : ℕ → Token) (n m : ℕ) (tool : Tool) (num val : ℕ → ℕ) (numbers : (i : ℕ) → isA avariable (tok i) ≡ true → num i ≡ tok i .num)
+    (few : (i : ℕ) → isA avariable (tok i) ≡ true → tok i .fit ≡ fits → tok i .num < 1000) where
   datum-uses : {room i : ℕ} {c : SExp} {k : ℕ} → ExpAt tok n ofJob room i c k → datumOf tok mtok n m tool room i .uses ≡ coded (variables tool c)
   datum-uses {room} {i} (symbolAt b x) = leaf-uses tok mtok n m tool room i true b (x .kind) ∙ none-found tool
     where
@@ -239,14 +273,22 @@ module _ (tok mtok : ℕ → Token) (n m : ℕ) (tool : Tool) (num val : ℕ →
           or-none,
         ) (or-comm (standsInAny x (exps ins)) (standsIn x (exp out)))
 
+  -- the cells in which they are marked
+  abbrev markedTo : ℕ → List ℕ
+  markedTo end = markedFrom (kinds tok n) num (end - 4) 4 (replicate 1000 0)
+
+  marked-at : (end x : ℕ) → x < 1000 → eqb (getD (markedTo end) x 0) 1 ≡ standsOf (end - 4) 4 x
+  marked-at end x l =
+      marked-stands (kinds tok n) num (end - 4) 4 x (replicate 1000 0) (omega (arith, length-replicate {A = ℕ} 1000 0)) ∙ ap (λ c. eqb c 1 || standsOf (end - 4) 4 x) (getD-replicate 1000 x 0 0 l)
+
   abbrev sideOf : ℕ → ℕ → Bool
-  sideOf end i = check.sideAt (keys tok n) (kinds tok n) num (ats tok n) n (isRunner tool) end i
+  sideOf end i = check.sideAt (keys tok n) (kinds tok n) num (ats tok n) n (isRunner tool) (markedTo end) i
 
   module _ (cs : List Exp) (end : ℕ) (h : (x : ℕ) → standsOf (end - 4) 4 x ≡ standsInAny x cs) where
     side-at : {room i : ℕ} {c : SExp} {k : ℕ} → ExpAt tok n ofJob room i c k → sideOf end i ≡ sideFits cs (exp c)
     side-at {room} {i} (symbolAt b x) = rw (atomic-at (symbolAt {room = room} b x), x .kind)
     side-at {room} {i} (at.ExpAt.eAt b x) = rw (atomic-at (at.ExpAt.eAt {room = room} b x))
-    side-at {room} {i} (at.ExpAt.aAt b x) = rw (atomic-at (at.ExpAt.aAt {room = room} b x), isA-other avariable symbol (tok i) (x .kind), numbers i (x .kind), h (tok i .num))
+    side-at {room} {i} (at.ExpAt.aAt b x) = rw (atomic-at (at.ExpAt.aAt {room = room} b x), isA-other avariable symbol (tok i) (x .kind), numbers i (x .kind), marked-at end (tok i .num) (few i (x .kind) (x .fit)), h (tok i .num))
     side-at {room} {i} (consAt o w c d e) = rw (atomic-at (consAt o w c d e))
 
     sides-bounds : {i : ℕ} {qs : List (SExp × SExp)} {k : ℕ} → SidesAt tok n i qs k → (i ≤ k) × (k < n)
@@ -254,7 +296,7 @@ module _ (tok mtok : ℕ → Token) (n m : ℕ) (tool : Tool) (num val : ℕ →
     sides-bounds (at.SidesAt.moreAt b o x y z qs) = let w = sides-bounds qs in let x0 = exp-least x in let y0 = exp-least y in let w0 = w .0 in (omega arith, w .1)
 
     sides-at : {i : ℕ} {qs : List (SExp × SExp)} {k : ℕ} (f : ℕ) (v : Verdict) → SidesAt tok n i qs k → k - i < f →
-        sidesAt (keys tok n) (kinds tok n) num (ats tok n) n (isRunner tool) f end v i ≡ walked k Fine (first v (coded (sidesVerdict cs qs)))
+        sidesAt (keys tok n) (kinds tok n) num (ats tok n) n (isRunner tool) f (markedTo end) v i ≡ walked k Fine (first v (coded (sidesVerdict cs qs)))
     unfolding sidesAt check.twoSides
     sides-at zero v x l = let z : ⊥ = omega arith in absurd z
     sides-at {i} (suc f) v (at.SidesAt.noneAt x) l = rw (x .key, first-fine)

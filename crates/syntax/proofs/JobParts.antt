@@ -14,7 +14,7 @@ use Rattle.language.specs.Reader.{is, isA}
 use Rattle.language.specs.Source.{SExp, symS, evarS, avarS, pairS, SJob}
 use Rattle.language.specs.Grammar.{standing}
 use Rattle.grammar.specs.Stored as stored
-use Rattle.syntax.specs.JobStored.{valAt}
+use Rattle.job_checker.specs.JobStored.{valAt}
 use Rattle.lexer.specs.Lexed.{State}
 use Rattle.checker.specs.StoredAt.{keyAt}
 use Rattle.syntax.specs.PartEnds.{partEnds, jobNumerals}

@@ -19,9 +19,9 @@ use Rattle.lexer.specs.declared.got.Got.the-variants.{Past, Refused}
 use Rattle.grammar.specs.Positions.{onPast}
 use Rattle.grammar.specs.Stored as stored
 use Rattle.checker.specs.StoredAt.{keyAt, tagAt, numAt, atAt}
-use Rattle.syntax.specs.JobStored as check
-use Rattle.syntax.specs.JobStored.{numeralFrom, valAt}
-use Rattle.syntax.specs.JobCheckAt as at
+use Rattle.job_checker.specs.JobStored as check
+use Rattle.job_checker.specs.JobStored.{numeralFrom, valAt}
+use Rattle.job_checker.specs.JobCheckAt as at
 use Rattle.syntax.specs.Standing.{ParamsAt, DefAt, defineAt, ProgramAt, JobAt}
 use Rattle.lexer.specs.Cutting.{bytesAt, wordAt}
 use Rattle.lexer.specs.Table.{wordOn, wordIn}
@@ -40,7 +40,7 @@ use Rattle.syntax.proofs.LexedMeaning.{Leaves}
 use Rattle.syntax.proofs.TokenCells.{InCell}
 use Rattle.lexer.proofs.CutLengths.{cut-lengths}
 use Rattle.syntax.proofs.TextStored.{lexed, token-most, job-read, job-ends, size, symbols-whole, held-same, held-alike}
-use Rattle.syntax.proofs.NumeralTokens.{numeral-again}
+use Rattle.syntax.proofs.NumeralTokens.{numeral-again, variable-few}
 use Rattle.syntax.proofs.ReadAnswers.{text-refused, text-judged, text-answer, text-accepted}
 
 -- an offset in the job's text, which the table tells from those in the program's
@@ -108,6 +108,9 @@ module _ (first text : List ℕ) (zs : List Word) (s : State) (j : SJob) (h : Jo
   number-held : (i : ℕ) → isA avariable (tok i) ≡ true → numAt (s .nums) (s .i) i ≡ tok i .num
   number-held i e = storedCheck.num-of (s .marks) (s .nums) (s .ats) (s .i) i ∙ ap (λ t. t .num) (h .same i (isA-other avariable plain (tok i) e))
 
+  variable-held : (i : ℕ) → isA avariable (tok i) ≡ true → tok i .fit ≡ fits → tok i .num < 1000
+  variable-held i k f = variable-few text zs i k f
+
   pub job-stands-in : JobAt tok (s .i) j
   job-stands-in = subst (λ (n : ℕ). JobAt tok n j) (sym (h .size)) (job-stands (tokens ofJob zs text) j (h .rest) (h .read))
 
@@ -121,7 +124,7 @@ module _ (first text : List ℕ) (zs : List Word) (s : State) (j : SJob) (h : Jo
         (λ k. storedCheck.key-of main mnums mats m k i) (λ k. storedCheck.kind-of main mnums mats m k i) m (isRunner tool) 4
 
     pub job-stored-checked : check.jobAt (s .marks) (s .nums) (s .ats) (s .i) (isRunner tool) text main m ≡ coded (jobVerdict tool (params (p .main .params)) j)
-    job-stored-checked = job-view ∙ job-checked tok mtok (s .i) m tool (numAt (s .nums) (s .i)) (valAt text (s .ats) (s .i)) number-held j (all-fixed ofJob zs text)
+    job-stored-checked = job-view ∙ job-checked tok mtok (s .i) m tool (numAt (s .nums) (s .i)) (valAt text (s .ats) (s .i)) number-held variable-held j (all-fixed ofJob zs text)
         (λ i x. h .values i (x .kind) (x .fit)) (main-params mtok m p (storedCheck.held-stands main mnums mats m p held-program) .1) job-stands-in
 
 -- zs are the program's symbols, which stand in the table

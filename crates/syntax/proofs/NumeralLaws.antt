@@ -13,7 +13,7 @@ use Rattle.expressions.proofs.Tests.{and-both}
 use Rattle.language.specs.Bytes.{Byte, blank, bracket, digit, letter, mark, outside, byteKind, isDigit, inWord, within}
 use Rattle.language.specs.Words.{Word, all, fits, broken, long, isNumeral, numeralFit, valueFrom, value}
 use Rattle.lexer.specs.Cutting.{pieceEnd, wordAt}
-use Rattle.syntax.specs.JobStored.{numeralFrom}
+use Rattle.job_checker.specs.JobStored.{numeralFrom}
 use Rattle.syntax.proofs.CheckLaws.{ahead-in}
 use Rattle.lexer.proofs.CutByIndex.{end-ahead, end-stops}
 use Rattle.lexer.proofs.Ranges.{in-range}

@@ -1,8 +1,6 @@
 pub mod Standing
 pub mod Placed
 pub mod Ends
-pub mod JobCheckAt
-pub mod JobStored
 pub mod ReadAnswer
 pub mod Heads
 pub mod PartEnds

@@ -4,7 +4,7 @@ use Prim.Native.Nat.{ℕ, _+_, _-_}
 use mathlib.Core.List.{List}
 use Rattle.checker.specs.CheckAt.{ahead}
 use Rattle.syntax.specs.Ends.{pastAt}
-use Rattle.syntax.specs.JobStored.{valAt}
+use Rattle.job_checker.specs.JobStored.{valAt}
 use Rattle.syntax.specs.declared.job_ends.JobEnds.{JobEnds}
 use Rattle.syntax.specs.declared.numerals.Numerals.{Numerals}
 

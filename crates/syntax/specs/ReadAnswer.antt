@@ -13,7 +13,7 @@ use Rattle.grammar.specs.Positions.{onPast}
 use Rattle.lexer.specs.Cutting.{bytesAt}
 use Rattle.grammar.specs.Stored as stored
 use Rattle.checker.specs.CheckStored as check
-use Rattle.syntax.specs.JobStored as jobCheck
+use Rattle.job_checker.specs.JobStored as jobCheck
 
 -- the index behind what was read, or what the check finds
 abbrev pub verdictGot : Verdict → ℕ → Got

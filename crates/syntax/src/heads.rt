@@ -1,8 +1,8 @@
 // Where the definitions of an accepted program stand.
 use crate::ends::narrow;
 use checker::check::index;
-use checker::check_program::definitions;
 use lexer::cells::put;
+use programs::check_program::definitions;
 ghost use mathlib.Core.Path.{_≡_};
 ghost use Prim.Native.Nat.{_-_};
 ghost use Rattle.checker.specs.CheckAt.{noDefs};

@@ -1,11 +1,11 @@
 // What the grammar and the check find in a text's stored tokens: "3, 4, 5 at the earliest token", then 6 to 9 of a program, 10 to 12 of a
 // job (01, "From the input").
-use crate::check_job::check_job;
 use checker::check::Verdict;
-use checker::check_program::check_program;
 use grammar::definitions::program;
 use grammar::jobs::job;
+use job_checker::check_job::check_job;
 use lexer::got::Got;
+use programs::check_program::check_program;
 ghost use mathlib.Core.Path.{_≡_};
 ghost use Rattle.syntax.specs.ReadAnswer.{verdictGot, programJudged, jobJudged};
 

@@ -1,7 +1,7 @@
 // The numerals of a job, read again from its text: N, W and T.
-use crate::check_job::numeral;
 use checker::places::ahead;
 use checker::places::offset;
+use job_checker::check_job::numeral;
 ghost use mathlib.Core.Path.{_≡_};
 ghost use Rattle.syntax.specs.PartEnds.{jobNumerals};
 

@@ -24,7 +24,8 @@ use Rattle.syntax.specs.declared.job_ends.JobEnds.{JobEnds}
 use Rattle.syntax.proofs.ProgramRead.{ProgramStored}
 use Rattle.syntax.proofs.JobRead.{JobStored}
 use Rattle.syntax.proofs.JobParts.{job-parts, job-ends, job-numerals}
-use Rattle.texts.specs.ReadCells.{zeros, roomy, toolOf, ReadAnswer, ifRoomy, readAs, programCut, jobCut, programReading, jobCells, jobReading, ProgramLeft}
+use Rattle.lent.specs.Storage.{zeros, roomy}
+use Rattle.texts.specs.ReadCells.{toolOf, ReadAnswer, ifRoomy, readAs, programCut, jobCut, programReading, jobCells, jobReading, ProgramLeft}
 use Rattle.texts.specs.BothCells.{placedJob, afterJob, jobBehind, BothAnswer, without, afterProgram, programFirst, bothRoomy, bothRead, bothOver}
 use Rattle.texts.specs.declared.both.Both.{Both}
 use Rattle.texts.specs.declared.both.Both.the-variants.{Accepted as Taken, Program, Job, Short}

@@ -14,8 +14,8 @@ use Rattle.syntax.specs.declared.job_ends.JobEnds.{JobEnds}
 use Rattle.syntax.specs.declared.numerals.Numerals.{Numerals}
 use Rattle.texts.specs.ReadCells.{ReadAnswer, programReading, jobCells}
 use Rattle.texts.specs.BothCells.{PlacedOut, placedJob, JobOut, jobBehind, BothAnswer, BothOut, programFirst, bothRoomy, bothRead}
-use Rattle.texts.specs.declared.read.Read.{Read}
-use Rattle.texts.specs.declared.read.Read.the-variants.{Accepted, Refused, Short as ReadShort}
+use Rattle.lent.specs.declared.read.Read.{Read}
+use Rattle.lent.specs.declared.read.Read.the-variants.{Accepted, Refused, Short as ReadShort}
 use Rattle.texts.specs.declared.both.Both.{Both}
 use Rattle.texts.specs.declared.both.Both.the-variants.{Accepted as Taken, Program, Job, Short}
 

@@ -5,12 +5,13 @@ use mathlib.Core.Bool.{Bool, true, false}
 use mathlib.Core.List.{List}
 use Rattle.lexer.specs.Cutting.{bytesAt}
 use Rattle.lexer.specs.Lexed.{State, Out}
-use Rattle.texts.specs.ReadCells.{zeros, roomy, ReadAnswer, ReadOut, untouched, cleared, afterCut, afterBytes, ifRoomy, programCut, programCells, jobCut, jobCells}
+use Rattle.lent.specs.Storage.{zeros, roomy}
+use Rattle.texts.specs.ReadCells.{ReadAnswer, ReadOut, untouched, cleared, afterCut, afterBytes, ifRoomy, programCut, programCells, jobCut, jobCells}
 use Rattle.syntax.specs.ReadAnswer.{programJudged, jobJudged}
 use Rattle.lexer.specs.declared.got.Got.{Got}
 use Rattle.lexer.specs.declared.got.Got.the-variants.{Past, Refused}
 use Rattle.lexer.specs.declared.lexer.Cut.{Cut}
-use Rattle.texts.specs.declared.read.Read.the-variants.{Accepted, Refused as Rejected}
+use Rattle.lent.specs.declared.read.Read.the-variants.{Accepted, Refused as Rejected}
 
 -- what a text comes to behind its tokens: `judged` is what the grammar and the check find
 module _ (judged : List ℕ → List ℕ → List ℕ → ℕ → Got) (s : State) (cut : Cut) (marks nums ats symbols names : List ℕ) (o : Out cut marks nums ats symbols names s) where

@@ -15,9 +15,10 @@ use Rattle.language.specs.Reading.{readProgram, readJob}
 use Rattle.lexer.specs.Cutting.{bytesAt}
 use Rattle.lexer.specs.Lexed.{State, starting, cutFrom}
 use Rattle.syntax.specs.ReadAnswer.{resGot, programJudged, jobJudged}
-use Rattle.texts.specs.ReadCells.{zeros, roomy, ReadAnswer, ReadOut, untouched, cleared, kept, afterCut, afterBytes, ifRoomy, programCut, programCells, jobCut, jobCells, readAs, programReading, toolOf, jobReading, ProgramLeft}
+use Rattle.lent.specs.Storage.{zeros, roomy}
+use Rattle.texts.specs.ReadCells.{ReadAnswer, ReadOut, untouched, cleared, kept, afterCut, afterBytes, ifRoomy, programCut, programCells, jobCut, jobCells, readAs, programReading, toolOf, jobReading, ProgramLeft}
 use Rattle.lexer.specs.declared.got.Got.{Got}
-use Rattle.texts.specs.declared.read.Read.{Read}
+use Rattle.lent.specs.declared.read.Read.{Read}
 use Rattle.lexer.specs.declared.got.Got.the-variants.{Past, Refused}
 use Rattle.lexer.proofs.CutLengths.{SameLengths, cut-lengths}
 use Rattle.syntax.proofs.JobLaws.{isRunner}

@@ -11,9 +11,10 @@ use Rattle.checker.specs.CheckStored.{defsAt}
 use Rattle.syntax.specs.Heads.{headsFrom}
 use Rattle.syntax.specs.Ends.{endsFrom}
 use Rattle.syntax.specs.PartEnds.{partEnds, jobNumerals}
-use Rattle.texts.specs.ReadCells.{roomy, programReading, jobCells}
-use Rattle.texts.specs.declared.read.Read.{Read}
-use Rattle.texts.specs.declared.read.Read.the-variants.{Accepted, Refused, Short as ReadShort}
+use Rattle.lent.specs.Storage.{roomy}
+use Rattle.texts.specs.ReadCells.{programReading, jobCells}
+use Rattle.lent.specs.declared.read.Read.{Read}
+use Rattle.lent.specs.declared.read.Read.the-variants.{Accepted, Refused, Short as ReadShort}
 use Rattle.texts.specs.declared.both.Both.{Both}
 use Rattle.texts.specs.declared.both.Both.the-variants.{Accepted as Taken, Program, Job, Short}
 

@@ -1,10 +1,8 @@
 -- What reading and checking a text comes to in storage: the answer, and what each storage holds afterwards.
 use Prim.Native.Nat.{ℕ, zero, suc}
 use mathlib.Core.Path.{_≡_}
-use mathlib.Core.Bool.{Bool, true, false, cond}
+use mathlib.Core.Bool.{Bool, true, false}
 use mathlib.Core.List.{List, []}
-use lib.Dec.{leb, ltb}
-use lib.ListN.{length, replicate}
 use Rattle.language.specs.Reader.{Res, ok, refused}
 use Rattle.language.specs.Source.{SProg}
 use Rattle.language.specs.Tokens.{symbolsOf}
@@ -12,24 +10,14 @@ use Rattle.language.specs.JobCheck.{Tool, lister, runner}
 use Rattle.language.specs.Reading.{readProgram, readJob}
 use Rattle.syntax.specs.ReadAnswer.{programJudged, jobJudged}
 use Rattle.grammar.specs.Stored as stored
-use Rattle.syntax.specs.JobStored as job
+use Rattle.job_checker.specs.JobStored as job
 use Rattle.lexer.specs.Cutting.{bytesAt}
 use Rattle.lexer.specs.Lexed.{State, cutFrom, starting}
 use Rattle.lexer.specs.declared.got.Got.{Got}
 use Rattle.lexer.specs.declared.got.Got.the-variants.{Past, Refused}
-use Rattle.texts.specs.declared.read.Read.{Read}
-use Rattle.texts.specs.declared.read.Read.the-variants.{Accepted, Refused as Rejected, Short}
-
-abbrev pub zeros : List ℕ → List ℕ
-zeros s = replicate (length s) 0
-
-abbrev pub roomy : List ℕ → List ℕ → List ℕ → List ℕ → List ℕ → Bool
-roomy marks nums ats symbols names =
-    cond (ltb (length marks) 4097) false
-    (cond (ltb (length nums) 4097) false
-    (cond (ltb (length ats) 4097) false
-    (cond (ltb (length symbols) 2048) false
-    (leb 8194 (length names)))))
+use Rattle.lent.specs.Storage.{zeros, roomy}
+use Rattle.lent.specs.declared.read.Read.{Read}
+use Rattle.lent.specs.declared.read.Read.the-variants.{Accepted, Refused as Rejected, Short}
 
 -- an answer, and what is left in the five storages
 pub record ReadAnswer : Type 0 where

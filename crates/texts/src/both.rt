@@ -1,8 +1,8 @@
 // Both texts read and checked, and where their parts stand (01, "Both", "From the input"): "Order: the program first, then the job."
-use crate::read::Read;
-use crate::read::long_enough;
 use crate::read_job::read_job;
 use crate::read_program::read_program;
+use lent::read::Read;
+use lent::read::long_enough;
 use syntax::ends::mark_ends;
 use syntax::heads::store_heads;
 use syntax::job_ends::JobEnds;

@@ -1,9 +1,9 @@
 // Reading and checking a job against a program that was read: "Each: 1; 2; then 3, 4, 5 at the earliest token. Job: 10, 11, 12"
 // (01, "From the input"). `runs` is whether the tool is the runner; `main` holds the marks of the program's tokens, m of them.
-use crate::clear::clear;
-use crate::clear::clear_tokens;
-use crate::read::Read;
-use crate::read::long_enough;
+use lent::clear::clear;
+use lent::clear::clear_tokens;
+use lent::read::Read;
+use lent::read::long_enough;
 use lexer::bytes::sound_bytes;
 use lexer::got::Got;
 use lexer::lexer::cut_tokens;

@@ -1,9 +1,9 @@
 // Reading and checking a program: "Each: 1; 2; then 3, 4, 5 at the earliest token. Program: 6; then 7, 8, 9 at the earliest token"
 // (01, "From the input").
-use crate::clear::clear;
-use crate::clear::clear_tokens;
-use crate::read::Read;
-use crate::read::long_enough;
+use lent::clear::clear;
+use lent::clear::clear_tokens;
+use lent::read::Read;
+use lent::read::long_enough;
 use lexer::bytes::sound_bytes;
 use lexer::got::Got;
 use lexer::lexer::cut_tokens;

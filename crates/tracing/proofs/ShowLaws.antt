@@ -23,7 +23,7 @@ use Rattle.semantics.proofs.Scopes.{WellScoped, scoped-call}
 use Rattle.sets.specs.Cells.{atomicCode}
 use Rattle.heap.specs.Moving.{Left, left}
 use Rattle.heap.specs.declared.configuration.Configuration.{Configuration as InCells}
-use Rattle.heap.proofs.RunLaws.{Below, below-self}
+use Rattle.runs.proofs.RunLaws.{Below, below-self}
 use Rattle.linking.specs.Code.{link, linkAt}
 use Rattle.linking.specs.Linked.{symLinked, eLinked, aLinked, consLinked, TermLinked, callLinked, sameLinked, testLinked, resultLinked, ProgramLinked}
 use Rattle.values.specs.Names.{namesFrom}
@@ -35,7 +35,7 @@ use Rattle.atoms.specs.Atoms.{sidesAt}
 use Rattle.atoms.proofs.AtomLaws.{sideOf, sides-mean}
 use Rattle.atoms.proofs.BranchLaws.{branches-mean}
 use Rattle.atoms.proofs.TakeLaws.{equal-leads, unequal-leads, same-successors}
-use Rattle.pairs.specs.Looking.{lookAt}
+use Rattle.looking.specs.Looking.{lookAt}
 use Rattle.pairs.proofs.BranchLaws.{stands-look, consp-lead}
 use Rattle.tracing.specs.Asking.{AskLeft, askedAt, isEnd, isCall, branchesAsked, takenAs}
 use Rattle.tracing.specs.declared.ask.Asked.{Asked}
@@ -192,7 +192,7 @@ module _ (p : Prog) (bodies : ℕ → ℕ) (code : List ℕ) (ok : Accepted p bo
         refl,
         w .0 ∙ ap not (inv (configured-none t (K .fresh) (contract (splitAtomic y z .yes) (K .cr)))),
         w .1 ∙ ap not (inv (configured-none u (K .fresh) (contract (splitAtomic y z .no) (K .cr)))),
-        equal-leads p bodies code x is size room y z,
+        equal-leads p bodies code x is size room y z simple,
         unequal-leads p bodies code x is size room y z less simple,
         looked 4 (Same (atomicCode y) (atomicCode z)) h m k below-self (x .holds .heap-size) refl,
       ))

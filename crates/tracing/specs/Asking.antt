@@ -13,7 +13,7 @@ use Rattle.values.specs.Names.{namesFrom}
 use Rattle.atoms.specs.Atoms.{sidesAt}
 use Rattle.atoms.specs.Choices.{branchesOf as branchesSame}
 use Rattle.atoms.specs.Taking.{equalTaken, unequalTaken}
-use Rattle.pairs.specs.Looking.{lookAt}
+use Rattle.looking.specs.Looking.{lookAt}
 use Rattle.pairs.specs.Branching.{branchesOf as branchesTested, trueTaken as testedTrue, falseTaken as testedFalse}
 use Rattle.tracing.specs.declared.ask.Asked.{Asked}
 use Rattle.tracing.specs.declared.ask.Asked.the-variants.{End, Call, Same, Test}

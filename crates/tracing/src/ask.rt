@@ -7,9 +7,9 @@ use linking::code::CALL;
 use linking::code::SAME;
 use linking::code::TEST;
 use linking::code::link_at;
+use looking::look::Tested;
+use looking::look::look;
 use pairs::branch::branches_of;
-use pairs::look::Tested;
-use pairs::look::look;
 ghost use mathlib.Core.Path.{_≡_};
 ghost use Rattle.tracing.specs.Asking.{askLeft, askedAt, isEnd, isCall, branchesAsked};
 

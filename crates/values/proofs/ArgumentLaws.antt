@@ -15,7 +15,7 @@ use Rattle.language.specs.Program.{Param}
 use Rattle.semantics.specs.Configuration.{substOfEnv}
 use Rattle.heap.specs.Entries.{entry, entryFrom, entryTo, pushed, PushAnswer, pushAnswer}
 use Rattle.heap.specs.declared.entry.Pushed.the-variants.{Done as PushedDone}
-use Rattle.heap.proofs.RunLaws.{Below, below-self}
+use Rattle.runs.proofs.RunLaws.{Below, below-self}
 use Rattle.heap.proofs.HeapLaws.{Holds, holds-below}
 use Rattle.heap.proofs.FrameLaws.{Held, held-front, entry-length, entry-before, entry-from, entry-to}
 use Rattle.heap.proofs.FrameLaws as frame

@@ -10,7 +10,7 @@ use borrow.Author.Tests.{lt-ltb, le-ltb, lt-leb, ltb-true, ltb-false}
 use Rattle.expressions.specs.Expression.{Exp}
 use Rattle.heap.specs.Entries.{entry, entryFrom, entryTo, pushed, PushAnswer, pushAnswer}
 use Rattle.heap.specs.declared.entry.Pushed.the-variants.{Done}
-use Rattle.heap.proofs.RunLaws.{Below}
+use Rattle.runs.proofs.RunLaws.{Below}
 use Rattle.heap.proofs.HeapLaws.{Holds}
 use Rattle.heap.proofs.FrameLaws.{Held, entry-length, entry-before, entry-behind, entry-from, entry-to}
 use Rattle.heap.proofs.FrameLaws as frame

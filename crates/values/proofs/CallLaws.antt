@@ -12,12 +12,12 @@ use Rattle.expressions.specs.Expression.{Exp, nodesAll}
 use Rattle.expressions.specs.Substitution.{Substitution, applyAll}
 use Rattle.language.specs.Program.{Param}
 use Rattle.semantics.specs.Configuration.{substOfEnv}
-use Rattle.heap.specs.Runs.{cellsAt}
+use Rattle.runs.specs.Runs.{cellsAt}
 use Rattle.heap.specs.Entries.{nodesFrom, movedDown, movedEntries}
 use Rattle.heap.specs.Moving.{Move, moved}
 use Rattle.heap.specs.declared.configuration.Configuration.{Configuration}
 use Rattle.heap.specs.declared.configuration.Moved.the-variants.{On, Over as MovedOver}
-use Rattle.heap.proofs.RunLaws.{Below, below-self, below-sets}
+use Rattle.runs.proofs.RunLaws.{Below, below-self, below-sets}
 use Rattle.heap.proofs.FrameLaws.{Held, held-front, moved-means}
 use Rattle.heap.proofs.NodeLaws.{held-nodes}
 use Rattle.linking.specs.Code.{link, linkAt}

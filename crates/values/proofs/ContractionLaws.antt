@@ -18,12 +18,12 @@ use Rattle.semantics.specs.Configuration.{state, applyEnv, nodesState}
 use Rattle.sets.specs.Cells.{pairCode}
 use Rattle.sets.specs.declared.fill.Filled.the-variants.{Done, Over as FilledOver}
 use Rattle.sets.proofs.RestrictionLaws.{Front}
-use Rattle.heap.specs.Runs.{cellsAt}
+use Rattle.runs.specs.Runs.{cellsAt}
 use Rattle.heap.specs.Contracted.{Stores, contractedFrom, contractedEntries}
 use Rattle.heap.specs.Moving.{boundCell, boundPair}
 use Rattle.heap.specs.declared.configuration.Configuration.{Configuration}
 use Rattle.heap.specs.declared.configuration.Moved.the-variants.{On, Over}
-use Rattle.heap.proofs.RunLaws.{Below, below-self, below-sets, written-done}
+use Rattle.runs.proofs.RunLaws.{Below, below-self, below-sets, written-done}
 use Rattle.heap.proofs.HeapLaws.{Range, Filling, sets-cells}
 use Rattle.heap.proofs.FrameLaws.{Held, held-kept, Contracts, contract-means}
 use Rattle.heap.proofs.FrameLaws as frame

@@ -19,9 +19,9 @@ use Rattle.sets.specs.Fill.{FillAnswer, fillAnswer}
 use Rattle.sets.specs.declared.fill.Filled.{Filled}
 use Rattle.sets.specs.declared.fill.Filled.the-variants.{Done, Over as FilledOver}
 use Rattle.sets.proofs.CellLaws.{cells-nodes}
-use Rattle.heap.specs.Runs.{written, run, cellsAt}
+use Rattle.runs.specs.Runs.{written, run, cellsAt}
 use Rattle.heap.specs.Entries.{entryFrom, entryTo}
-use Rattle.heap.proofs.RunLaws.{Below, below-self, below-sets, length-cellsAt, written-over}
+use Rattle.runs.proofs.RunLaws.{Below, below-self, below-sets, length-cellsAt, written-over}
 use Rattle.heap.proofs.HeapLaws.{Holds, holds-below}
 use Rattle.heap.proofs.FrameLaws.{Held}
 use Rattle.linking.specs.Code.{link, linkAt}

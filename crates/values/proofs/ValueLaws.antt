@@ -18,9 +18,9 @@ use Rattle.sets.specs.Fill.{FillAnswer, fillAnswer}
 use Rattle.sets.specs.declared.fill.Filled.{Filled}
 use Rattle.sets.specs.declared.fill.Filled.the-variants.{Done, Over as FilledOver}
 use Rattle.sets.proofs.CellLaws.{cells-nodes}
-use Rattle.heap.specs.Runs.{cellsAt, run, written, appended}
+use Rattle.runs.specs.Runs.{cellsAt, run, written, appended}
 use Rattle.heap.specs.Entries.{entryFrom, entryTo}
-use Rattle.heap.proofs.RunLaws.{Below, below-self, below-sets, run-below, length-cellsAt, written-done, sets-append}
+use Rattle.runs.proofs.RunLaws.{Below, below-self, below-sets, run-below, length-cellsAt, written-done, sets-append}
 use Rattle.heap.proofs.HeapLaws.{Holds, holds-below, sets-cells}
 use Rattle.heap.proofs.FrameLaws.{Held}
 use Rattle.heap.proofs.FrameLaws as frame

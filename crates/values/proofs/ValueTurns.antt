@@ -6,8 +6,8 @@ use lib.ListN.{set}
 use native.Mathlib.Omega.{arith}
 use Rattle.sets.specs.Fill.{FillAnswer, fillAnswer}
 use Rattle.sets.specs.declared.fill.Filled.the-variants.{Done, Over}
-use Rattle.heap.specs.Runs.{written}
-use Rattle.heap.proofs.RunLaws.{written-over, written-done}
+use Rattle.runs.specs.Runs.{written}
+use Rattle.runs.proofs.RunLaws.{written-over, written-done}
 use Rattle.values.specs.Values.{onwardFill, tokenWritten, tokensWritten}
 
 none-left : (c j : ℕ) → c ≤ j → c - j ≡ 0

@@ -7,7 +7,7 @@ use lib.ListN.{getD}
 use Rattle.sets.specs.Fill.{FillAnswer, fillAnswer}
 use Rattle.sets.specs.declared.fill.Filled.{Filled}
 use Rattle.sets.specs.declared.fill.Filled.the-variants.{Done, Over as FilledOver}
-use Rattle.heap.specs.Runs.{written, appended}
+use Rattle.runs.specs.Runs.{written, appended}
 use Rattle.heap.specs.Entries.{entryFrom, entryTo}
 use Rattle.linking.specs.Code.{linkAt}
 use Rattle.values.specs.declared.tokens.Place.{Place}

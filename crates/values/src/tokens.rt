@@ -1,15 +1,15 @@
 // The cells that tokens give, written one behind the other.
-use heap::run;
 use linking::code::CELL;
 use linking::code::NAME;
 use linking::code::link_at;
+use runs::run;
 use sets::cell;
 use sets::fill::Filled;
 ghost use mathlib.Core.Path.{_≡_};
 ghost use Prim.Native.Nat.{_-_};
 ghost use mathlib.Core.List.{_∷_, []};
 ghost use Rattle.sets.specs.Fill.{fillAnswer};
-ghost use Rattle.heap.specs.Runs.{written};
+ghost use Rattle.runs.specs.Runs.{written};
 ghost use Rattle.values.specs.Values.{entryAt, placeAt, tokenWritten, tokensWritten};
 
 // Where an entry's value stands.

@@ -34,19 +34,19 @@ use Rattle.values.proofs.ContractionLaws.{pair-on, pair-over}
 use Rattle.tracing.proofs.ShowLaws.{Accepted}
 use Rattle.initial.specs.Beginning.{BegunLeft}
 use Rattle.initial.proofs.BeginLaws.{inMain, Begins}
-use Rattle.ends.specs.LineCells.{answerRoom}
-use Rattle.ends.proofs.LineLaws.{LinesHeld}
+use Rattle.lines.specs.LineCells.{answerRoom}
+use Rattle.lines.proofs.LineLaws.{LinesHeld}
 use Rattle.replay.specs.declared.position.Bounds.{Bounds}
 use Rattle.replay.proofs.RecordLaws.{Entered, Recorded, Rooted, only}
-use Rattle.walk.specs.Finding.{walked, nothingFound, counted, cutOff}
-use Rattle.walk.specs.States.{stateAt}
+use Rattle.turns.specs.Finding.{walked, nothingFound, counted, cutOff}
+use Rattle.turns.specs.States.{stateAt}
 use Rattle.walk.specs.Walking.{WalkedLeft, walkedFrom}
 use Rattle.walk.specs.Jobs.{JobLeft, jobLeft, boundsOf, firstNode, ofWalk, walkFirst, walkBegun, onBegun}
-use Rattle.walk.specs.declared.found.Found.{Found}
-use Rattle.walk.specs.declared.found.Ending.{Ending}
-use Rattle.walk.specs.declared.found.Ending.the-variants.{Done, Over, Spent}
-use Rattle.walk.specs.declared.found.Walked.{Walked as Came}
-use Rattle.walk.specs.declared.state.State.{State}
+use Rattle.turns.specs.declared.found.Found.{Found}
+use Rattle.turns.specs.declared.found.Ending.{Ending}
+use Rattle.turns.specs.declared.found.Ending.the-variants.{Done, Over, Spent}
+use Rattle.turns.specs.declared.found.Walked.{Walked as Came}
+use Rattle.turns.specs.declared.state.State.{State}
 use Rattle.walk.proofs.PlanLaws.{endingOf, SameFound, Walking}
 use Rattle.walk.proofs.WalkLaws.{endOf, held-few, Comes, walk-goes}
 

@@ -11,14 +11,14 @@ use Rattle.saving.specs.Saving.{saveLeft, savedTo}
 use Rattle.initial.specs.Beginning.{BegunLeft, begunLeft, begunAt}
 use Rattle.initial.specs.declared.begin.Begun.{Begun}
 use Rattle.initial.specs.declared.begin.Begun.the-variants.{On, None, Over as BegunOver}
-use Rattle.walk.specs.Finding.{walked, nothingFound, counted}
-use Rattle.walk.specs.States.{stateAt}
+use Rattle.turns.specs.Finding.{walked, nothingFound, counted}
+use Rattle.turns.specs.States.{stateAt}
 use Rattle.walk.specs.Walking.{walkedLeft, walkedOn}
 use Rattle.walk.specs.Jobs.{jobLeft, boundsOf, firstNode, ofWalk, walkSaved, walkFirst, walkBegun, onBegun, walkJob}
-use Rattle.walk.specs.declared.found.Found.{Found}
-use Rattle.walk.specs.declared.found.Ending.the-variants.{Done, Over}
-use Rattle.walk.specs.declared.found.Walked.{Walked}
-use Rattle.walk.specs.declared.state.State.{State}
+use Rattle.turns.specs.declared.found.Found.{Found}
+use Rattle.turns.specs.declared.found.Ending.the-variants.{Done, Over}
+use Rattle.turns.specs.declared.found.Walked.{Walked}
+use Rattle.turns.specs.declared.state.State.{State}
 
 -- behind the first transition
 pub first-walks : (code : List ℕ) (c : Configuration) (k : Numerals) (h f q a : List ℕ) {top : ℕ} {saved : List ℕ} {n o : Found} {s : State} {r : Walked} {h′ f′ q′ p′ s′ a′ : List ℕ} →

@@ -1,3 +1,4 @@
+pub mod CallTurns
 pub mod WalkTurns
 pub mod JobTurns
 pub mod PlanLaws

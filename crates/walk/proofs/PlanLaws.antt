@@ -25,7 +25,7 @@ use Rattle.semantics.proofs.Soundness.{Small}
 use Rattle.semantics.proofs.Reaching.{branchOf, Reaches, here, byCall, byDecision, reaches-call, reaches-decision, reaches-steps, reaches-good, reaches-replay}
 use Rattle.heap.specs.declared.configuration.Branches.{Branches}
 use Rattle.heap.specs.declared.configuration.Configuration.{Configuration as InCells}
-use Rattle.heap.proofs.RunLaws.{Below}
+use Rattle.runs.proofs.RunLaws.{Below}
 use Rattle.saving.specs.Records.{Record, recordCells}
 use Rattle.saving.specs.Saving.{SaveLeft}
 use Rattle.values.proofs.StateLaws.{isNone, Leads}
@@ -36,13 +36,13 @@ use Rattle.tracing.proofs.ShowLaws.{Accepted, end-successors}
 use Rattle.trails.specs.TrailCells.{choiceCell, pushed, latestPending, backtracked, pathLeft}
 use Rattle.trails.proofs.TrailLaws.{PathHeld, path-pushed, path-shorter, Backed, spent, turned, backs, backtrack-ended, backtrack-held}
 use Rattle.trails.proofs.ReachLaws.{Decides}
-use Rattle.ends.specs.LineCells.{answerRoom}
-use Rattle.ends.specs.declared.line.Lines.{Lines}
-use Rattle.ends.specs.Ends.{EndLeft, metEnd}
-use Rattle.ends.specs.declared.end.Ended.{Ended}
-use Rattle.ends.specs.declared.end.Ended.the-variants.{Going, Over as EndedOver, Full as EndedFull}
-use Rattle.ends.proofs.LineLaws.{LinesHeld}
-use Rattle.ends.proofs.EndLaws.{EndMeans, EndKept, end-means, end-kept}
+use Rattle.lines.specs.LineCells.{answerRoom}
+use Rattle.lines.specs.declared.line.Lines.{Lines}
+use Rattle.lines.specs.Ends.{EndLeft, metEnd}
+use Rattle.lines.specs.declared.end.Ended.{Ended}
+use Rattle.lines.specs.declared.end.Ended.the-variants.{Going, Over as EndedOver, Full as EndedFull}
+use Rattle.lines.proofs.LineLaws.{LinesHeld}
+use Rattle.lines.proofs.EndLaws.{EndMeans, EndKept, end-means, end-kept}
 use Rattle.replay.specs.Positions.{atDepth}
 use Rattle.replay.specs.Rooms.{RoomLeft, madeRoom}
 use Rattle.replay.specs.Replaying.{savedIf, ReplayLeft, broughtBack}
@@ -51,18 +51,17 @@ use Rattle.replay.specs.declared.position.Position.{Position}
 use Rattle.replay.proofs.RecordLaws.{Entered, Rooted, saves-more, saves-below}
 use Rattle.replay.proofs.RoomLaws.{Kept, At, room-made}
 use Rattle.replay.proofs.ReplayLaws.{Holds, Showing, showing, kept-later, choice-kept, Waiting, bring-means}
-use Rattle.walk.specs.Finding.{walked, withLines, cutOff}
-use Rattle.walk.specs.States.{stateAt, cutAt}
-use Rattle.walk.specs.States as states
-use Rattle.walk.specs.Planning.{isBoth, ChooseLeft, chooseLeft, chosenBy, chosenAt, conditionPlanned, Expanded, expanded, endPlanned, choicePlanned, planned}
-use Rattle.walk.specs.Planning as planning
+use Rattle.turns.specs.Finding.{walked, withLines, cutOff}
+use Rattle.turns.specs.States.{stateAt, cutAt}
+use Rattle.turns.specs.States as states
+use Rattle.walk.specs.Planning.{ChooseLeft, chooseLeft, chosenBy, chosenAt, conditionPlanned, Expanded, expanded, endPlanned, choicePlanned, planned}
 use Rattle.walk.specs.Backing.{BackLeft, backLeft, lookedBack, wentBack}
-use Rattle.walk.specs.declared.found.Found.{Found}
-use Rattle.walk.specs.declared.found.Ending.{Ending}
-use Rattle.walk.specs.declared.found.Ending.the-variants.{Done, Over, Full, Spent}
-use Rattle.walk.specs.declared.state.State.{State}
-use Rattle.walk.specs.declared.state.Plan.{Plan}
-use Rattle.walk.specs.declared.state.Plan.the-variants.{Take, Back, Stop as Stopped}
+use Rattle.turns.specs.declared.found.Found.{Found}
+use Rattle.turns.specs.declared.found.Ending.{Ending}
+use Rattle.turns.specs.declared.found.Ending.the-variants.{Done, Over, Full, Spent}
+use Rattle.turns.specs.declared.state.State.{State}
+use Rattle.turns.specs.declared.state.Plan.{Plan}
+use Rattle.turns.specs.declared.state.Plan.the-variants.{Take, Back, Stop as Stopped}
 
 abbrev pub endingOf : Stop → Ending
 endingOf stop21 = Over
@@ -241,8 +240,8 @@ module _ (p : Prog) (bodies : ℕ → ℕ) (code : List ℕ) (ok : Accepted p bo
     plan-end d is o k =
         let g = metEnd code (st .at .node) (lim .table) (st .found .lines) (roomed .heap) (roomed .frame) q a in
         let i : st .at .node .steps ≤ 65535 = omega (arith, counted .0, steps-are) in
-        let e = end-means p bodies code y (made .stands) d is (made .entered .size) (made .entered .scoped) low lim few-lines (st .at .node .steps) (st .at .node .depth) i (withTodo [] s) a (st .found .lines) (w .found .lines) (w .found .long) in
-        let t = end-kept p bodies code y (made .stands) d is (made .entered .size) (made .entered .scoped) low lim few-lines (st .at .node .steps) (st .at .node .depth) i (withTodo [] s) a (st .found .lines) (w .found .lines) (w .found .long) in
+        let e = end-means p bodies code y (made .stands) d is (made .entered .size) (made .entered .sound .simple) (made .entered .scoped) low lim few-lines (st .at .node .steps) (st .at .node .depth) i (withTodo [] s) a (st .found .lines) (w .found .lines) (w .found .long) in
+        let t = end-kept p bodies code y (made .stands) d is (made .entered .size) (made .entered .sound .simple) (made .entered .scoped) low lim few-lines (st .at .node .steps) (st .at .node .depth) i (withTodo [] s) a (st .found .lines) (w .found .lines) (w .found .long) in
         let e′ : EndMeans a (atEnd lim (y .steps) (withTodo [] s) (intersect meetingOver (meetingAt y (output d)))) (g .ended) (g .answer) =
         subst (λ (j : ℕ). EndMeans a (atEnd lim j (withTodo [] s) (intersect meetingOver (meetingAt y (output d)))) (g .ended) (g .answer)) steps-are e in
         rw (extend-end m y (output d) s, plans-are, o, k) (end-plan (y .steps) (intersect meetingOver (meetingAt y (output d))) g e′ t)

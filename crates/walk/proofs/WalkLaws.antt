@@ -38,7 +38,7 @@ use Rattle.tracing.specs.declared.ask.Asked.{Asked}
 use Rattle.tracing.proofs.ShowLaws.{Accepted}
 use Rattle.trails.specs.TrailCells.{latestPending, backtracked, pathLeft}
 use Rattle.trails.proofs.TrailLaws.{PathHeld, path-shorter, Backed, spent, turned, backs, backtrack-ended, backtrack-held}
-use Rattle.ends.proofs.LineLaws.{LinesHeld}
+use Rattle.lines.proofs.LineLaws.{LinesHeld}
 use Rattle.replay.specs.Positions.{atDepth, movedFrom}
 use Rattle.replay.specs.Replaying.{ReplayLeft, broughtBack}
 use Rattle.replay.specs.declared.position.Bounds.{Bounds}
@@ -46,18 +46,18 @@ use Rattle.replay.specs.declared.position.Position.{Position}
 use Rattle.replay.proofs.RecordLaws.{Entered, Rooted, passed, saves-more, saves-below}
 use Rattle.replay.proofs.RoomLaws.{Kept}
 use Rattle.replay.proofs.ReplayLaws.{Holds, showing, Waiting, bring-means}
-use Rattle.walk.specs.Finding.{walked, counted}
-use Rattle.walk.specs.States.{stateAt, afterMove}
+use Rattle.turns.specs.Finding.{walked, counted}
+use Rattle.turns.specs.States.{stateAt, afterMove}
 use Rattle.walk.specs.Planning.{Expanded, expanded, planned}
 use Rattle.walk.specs.Backing.{BackLeft, lookedBack, wentBack}
 use Rattle.walk.specs.Walking.{behindBack, afterPlan, nextPlanned, sizedMove, made, walkTurn, WalkedLeft, walkedFrom}
-use Rattle.walk.specs.declared.found.Found.{Found}
-use Rattle.walk.specs.declared.found.Ending.{Ending}
-use Rattle.walk.specs.declared.found.Ending.the-variants.{Done, Over, Spent}
-use Rattle.walk.specs.declared.found.Walked.{Walked as Came}
-use Rattle.walk.specs.declared.state.State.{State}
-use Rattle.walk.specs.declared.state.Plan.the-variants.{Take, Stop as Stopped}
-use Rattle.walk.specs.declared.state.Turn.the-variants.{On as TurnOn, Stop as TurnStop}
+use Rattle.turns.specs.declared.found.Found.{Found}
+use Rattle.turns.specs.declared.found.Ending.{Ending}
+use Rattle.turns.specs.declared.found.Ending.the-variants.{Done, Over, Spent}
+use Rattle.turns.specs.declared.found.Walked.{Walked as Came}
+use Rattle.turns.specs.declared.state.State.{State}
+use Rattle.turns.specs.declared.state.Plan.the-variants.{Take, Stop as Stopped}
+use Rattle.turns.specs.declared.state.Turn.the-variants.{On as TurnOn, Stop as TurnStop}
 use Rattle.walk.proofs.PlanLaws.{endingOf, SameFound, Undone, Way, reaches-small, Walking, Ready, Exhausted, PlanMeans, plan-means}
 
 -- a path that goes back has its storage

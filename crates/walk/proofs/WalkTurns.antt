@@ -4,10 +4,10 @@ use mathlib.Core.Path.{_≡_}
 use mathlib.Core.List.{List}
 use native.Mathlib.Omega.{arith}
 use Rattle.replay.specs.declared.position.Bounds.{Bounds}
-use Rattle.walk.specs.Finding.{walked}
+use Rattle.turns.specs.Finding.{walked}
 use Rattle.walk.specs.Walking.{walkTurn, walkedLeft, afterTurn, walkedFrom}
-use Rattle.walk.specs.declared.found.Ending.the-variants.{Spent}
-use Rattle.walk.specs.declared.state.State.{State}
+use Rattle.turns.specs.declared.found.Ending.the-variants.{Spent}
+use Rattle.turns.specs.declared.state.State.{State}
 
 none-left : (n : ℕ) → n ≤ 0 → n ≡ 0
 none-left n l = omega arith

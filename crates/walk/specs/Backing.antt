@@ -8,13 +8,13 @@ use Rattle.trails.specs.TrailCells.{backtracked}
 use Rattle.replay.specs.Positions.{atDepth}
 use Rattle.replay.specs.Replaying.{ReplayLeft, broughtBack}
 use Rattle.replay.specs.declared.position.Bounds.{Bounds}
-use Rattle.walk.specs.Finding.{walked}
-use Rattle.walk.specs.States.{stateAt}
-use Rattle.walk.specs.declared.found.Found.{Found}
-use Rattle.walk.specs.declared.found.Ending.the-variants.{Done}
-use Rattle.walk.specs.declared.state.State.{State}
-use Rattle.walk.specs.declared.state.Plan.{Plan}
-use Rattle.walk.specs.declared.state.Plan.the-variants.{Take, Stop}
+use Rattle.turns.specs.Finding.{walked}
+use Rattle.turns.specs.States.{stateAt}
+use Rattle.turns.specs.declared.found.Found.{Found}
+use Rattle.turns.specs.declared.found.Ending.the-variants.{Done}
+use Rattle.turns.specs.declared.state.State.{State}
+use Rattle.turns.specs.declared.state.Plan.{Plan}
+use Rattle.turns.specs.declared.state.Plan.the-variants.{Take, Stop}
 
 -- a plan, and what is left in five storages
 pub record BackLeft : Type 0 where

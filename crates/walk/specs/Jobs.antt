@@ -14,11 +14,11 @@ use Rattle.initial.specs.declared.begin.Begun.the-variants.{On, None, Over as B
 use Rattle.saving.specs.Saving.{SaveLeft, savedTo}
 use Rattle.saving.specs.declared.head.Node.{Node}
 use Rattle.replay.specs.declared.position.Bounds.{Bounds}
-use Rattle.walk.specs.Finding.{walked, nothingFound, counted, cutOff}
-use Rattle.walk.specs.States.{stateAt}
+use Rattle.turns.specs.Finding.{walked, nothingFound, counted, cutOff}
+use Rattle.turns.specs.States.{stateAt}
 use Rattle.walk.specs.Walking.{WalkedLeft, walkedOn}
-use Rattle.walk.specs.declared.found.Ending.the-variants.{Done, Over, Spent}
-use Rattle.walk.specs.declared.found.Walked.{Walked}
+use Rattle.turns.specs.declared.found.Ending.the-variants.{Done, Over, Spent}
+use Rattle.turns.specs.declared.found.Walked.{Walked}
 
 -- what a walk comes to, and the answer storage
 pub record JobLeft : Type 0 where

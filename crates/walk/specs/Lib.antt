@@ -1,5 +1,3 @@
-pub mod Finding
-pub mod States
 pub mod Planning
 pub mod Backing
 pub mod Walking

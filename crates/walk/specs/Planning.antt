@@ -1,27 +1,20 @@
 -- A node expanded: what each function of plan.rt answers and leaves.
 use Prim.Native.Nat.{ℕ}
-use mathlib.Core.Bool.{Bool, true, false, cond}
+use mathlib.Core.Bool.{true, cond}
 use mathlib.Core.List.{List}
-use lib.Dec.{leb}
 use Rattle.heap.specs.declared.configuration.Branches.{Branches}
 use Rattle.tracing.specs.Asking.{askedAt, isEnd, isCall, branchesAsked}
 use Rattle.tracing.specs.declared.ask.Asked.{Asked}
 use Rattle.trails.specs.TrailCells.{pushed}
-use Rattle.ends.specs.Ends.{EndLeft, metEnd}
-use Rattle.replay.specs.Positions.{atDepth}
+use Rattle.lines.specs.Ends.{EndLeft, metEnd}
 use Rattle.replay.specs.Rooms.{madeRoom}
 use Rattle.replay.specs.Replaying.{savedIf}
 use Rattle.replay.specs.declared.position.Bounds.{Bounds}
-use Rattle.walk.specs.States.{stateAt, afterEnd, cutAt}
-use Rattle.walk.specs.declared.state.State.{State}
-use Rattle.walk.specs.declared.state.Plan.{Plan}
-use Rattle.walk.specs.declared.state.Plan.the-variants.{Take, Back}
-
-abbrev pub isBoth : Branches → Bool
-isBoth b = cond (b .yes) (b .no) false
-
-abbrev pub isNone : Branches → Bool
-isNone b = cond (b .yes) false (cond (b .no) false true)
+use Rattle.turns.specs.Choices.{isBoth, isNone, isDeep, firstTaken}
+use Rattle.turns.specs.States.{stateAt, afterEnd, cutAt}
+use Rattle.turns.specs.declared.state.State.{State}
+use Rattle.turns.specs.declared.state.Plan.{Plan}
+use Rattle.turns.specs.declared.state.Plan.the-variants.{Take, Back}
 
 -- a plan, and what is left of the path and of what is saved
 pub record ChooseLeft : Type 0 where
@@ -35,17 +28,16 @@ chooseLeft r p s = record { plan = r; path = p; saved = s }
 -- by the branches there are
 abbrev pub chosenBy : State → Asked → Branches → ℕ → List ℕ → List ℕ → List ℕ → List ℕ → ChooseLeft
 chosenBy s a b base f q path saved =
-    let n = s .at .node in
-    let d = pushed (n .depth) (b .yes) (isBoth b) path in
+    let d = pushed (s .at .node .depth) (b .yes) (isBoth b) path in
     let k = savedIf (isBoth b) (s .at) base f q saved in
-    cond (isNone b) (chooseLeft (Back s) path saved) (chooseLeft (Take (stateAt (atDepth n (d .depth) (k .top)) (s .found)) a (b .yes)) (d .path) (k .saved))
+    cond (isNone b) (chooseLeft (Back s) path saved) (chooseLeft (firstTaken s (d .depth) (k .top) a b) (d .path) (k .saved))
 
 unfoldable pub chosenAt : State → Asked → ℕ → List ℕ → List ℕ → List ℕ → List ℕ → ChooseLeft
 chosenAt s a base f q path saved = chosenBy s a (branchesAsked (s .at .node .at .neqs) a q) base f q path saved
 
 unfoldable pub conditionPlanned : State → Asked → Bounds → List ℕ → List ℕ → List ℕ → List ℕ → ChooseLeft
 conditionPlanned s a b f q path saved =
-    cond (leb (b .steps) (s .at .node .steps)) (chooseLeft (cutAt s) path saved) (cond (isCall a) (chooseLeft (Take s a true) path saved) (chosenAt s a (b .base) f q path saved))
+    cond (isDeep b (s .at .node)) (chooseLeft (cutAt s) path saved) (cond (isCall a) (chooseLeft (Take s a true) path saved) (chosenAt s a (b .base) f q path saved))
 
 -- a plan, and what is left in the storages of a walk
 pub record Expanded : Type 0 where

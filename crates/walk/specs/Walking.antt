@@ -1,26 +1,33 @@
 -- The walk over cells: what each function of walk.rt answers and leaves.
 use Prim.Native.Nat.{ℕ, zero, suc, _+_, min}
-use mathlib.Core.Bool.{Bool, cond}
+use mathlib.Core.Bool.{Bool, false, cond, not}
 use mathlib.Core.List.{List}
-use lib.Dec.{leb}
-use Rattle.heap.specs.Moving.{Left}
+use lib.Dec.{eqb}
+use Rattle.linking.specs.Code.{linkAt}
+use Rattle.heap.specs.Moving.{Move, Left}
 use Rattle.heap.specs.declared.configuration.Moved.{Moved}
 use Rattle.heap.specs.declared.configuration.Moved.the-variants.{On as MovedOn, Contradiction, Over as MovedOver}
+use Rattle.saving.specs.Heads.{usedAt}
+use Rattle.values.specs.Names.{namesFrom}
 use Rattle.values.specs.Sizes.{sizedAs}
+use Rattle.values.specs.Calls.{calledTo}
 use Rattle.tracing.specs.Asking.{takenAs}
 use Rattle.tracing.specs.declared.ask.Asked.{Asked}
+use Rattle.replay.specs.Rooms.{isTight}
+use Rattle.replay.specs.declared.position.Position.{Position}
 use Rattle.replay.specs.declared.position.Bounds.{Bounds}
-use Rattle.walk.specs.Finding.{walked}
-use Rattle.walk.specs.States.{afterMove}
+use Rattle.turns.specs.Finding.{walked}
+use Rattle.turns.specs.Choices.{isDeep, isSpent}
+use Rattle.turns.specs.States.{afterMove}
 use Rattle.walk.specs.Planning.{Expanded, expanded, planned}
 use Rattle.walk.specs.Backing.{BackLeft, wentBack}
-use Rattle.walk.specs.declared.found.Ending.the-variants.{Done, Spent}
-use Rattle.walk.specs.declared.found.Walked.{Walked}
-use Rattle.walk.specs.declared.state.State.{State}
-use Rattle.walk.specs.declared.state.Plan.{Plan}
-use Rattle.walk.specs.declared.state.Plan.the-variants.{Take, Back, Stop as PlanStop}
-use Rattle.walk.specs.declared.state.Turn.{Turn}
-use Rattle.walk.specs.declared.state.Turn.the-variants.{On, Stop}
+use Rattle.turns.specs.declared.found.Ending.the-variants.{Done, Spent}
+use Rattle.turns.specs.declared.found.Walked.{Walked}
+use Rattle.turns.specs.declared.state.State.{State}
+use Rattle.turns.specs.declared.state.Plan.{Plan}
+use Rattle.turns.specs.declared.state.Plan.the-variants.{Take, Back, Stop as PlanStop}
+use Rattle.turns.specs.declared.state.Turn.{Turn}
+use Rattle.turns.specs.declared.state.Turn.the-variants.{On, Stop}
 
 abbrev pub sizedMove : Moved → List ℕ → Moved
 sizedMove (MovedOn c) f = sizedAs c f
@@ -41,7 +48,29 @@ behindTake s w = madeLeft (afterMove s (sizedMove (w .answer) (w .frame))) (w .h
 
 unfoldable pub made : List ℕ → State → Asked → Bool → ℕ → List ℕ → List ℕ → List ℕ → MadeLeft
 made code s a taken walk h f q =
-    cond (leb walk (s .found .count)) (madeLeft (Stop (walked Spent (s .found))) h f q) (behindTake s (takenAs code (s .at .node .at) a taken h f q))
+    cond (isSpent walk (s .found)) (madeLeft (Stop (walked Spent (s .found))) h f q) (behindTake s (takenAs code (s .at .node .at) a taken h f q))
+
+-- a call at a node that is no deeper than the walk goes, with room in the heap
+abbrev pub isPlainCall : List ℕ → List ℕ → Position → Bounds → Bool
+isPlainCall code saved p b =
+    let c = p .node .at in
+    cond (eqb (linkAt code (c .place) .mark) 3) (cond (isTight (c .used) (usedAt saved (p .top))) false (not (isDeep b (p .node)))) false
+
+pub record CalledLeft : Type 0 where
+  pub turn : Turn
+  pub heap : List ℕ
+  pub frame : List ℕ
+
+abbrev pub calledLeft : Turn → List ℕ → List ℕ → CalledLeft
+calledLeft t h f = record { turn = t; heap = h; frame = f }
+
+abbrev pub behindCall : State → Move → CalledLeft
+behindCall s w = calledLeft (afterMove s (sizedMove (w .answer) (w .frame))) (w .heap) (w .frame)
+
+unfoldable pub madeCall : List ℕ → State → ℕ → List ℕ → List ℕ → CalledLeft
+madeCall code s walk h f =
+    let c = s .at .node .at in
+    cond (isSpent walk (s .found)) (calledLeft (Stop (walked Spent (s .found))) h f) (behindCall s (calledTo code (namesFrom c) c h f))
 
 abbrev pub behindBack : List ℕ → BackLeft → Expanded
 behindBack answer w = expanded (w .plan) (w .heap) (w .frame) (w .q) (w .path) (w .saved) answer

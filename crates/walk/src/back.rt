@@ -1,14 +1,14 @@
 // "the latest choice whose false branch is untaken now takes it".
-use crate::found;
-use crate::found::Ending;
-use crate::state::Plan;
-use crate::state::State;
-use crate::state::state_at;
 use replay::position::Bounds;
 use replay::position::at_depth;
 use replay::replay::bring_back;
 use tracing::ask::ask;
 use trails::trail::backtrack;
+use turns::found;
+use turns::found::Ending;
+use turns::state::Plan;
+use turns::state::State;
+use turns::state::state_at;
 ghost use mathlib.Core.Path.{_≡_};
 ghost use Rattle.walk.specs.Backing.{backLeft, wentBack};
 

@@ -1,10 +1,4 @@
 // The walk of a job, in storages of its own.
-use crate::found;
-use crate::found::Ending;
-use crate::found::Walked;
-use crate::found::cut_off;
-use crate::found::nothing;
-use crate::state::state_at;
 use crate::walk::walk_on;
 use heap::configuration::Configuration;
 use initial::begin::Begun;
@@ -15,6 +9,12 @@ use saving::head::Node;
 use saving::saved::save;
 use syntax::job_ends::JobEnds;
 use syntax::numerals::Numerals;
+use turns::found;
+use turns::found::Ending;
+use turns::found::Walked;
+use turns::found::cut_off;
+use turns::found::nothing;
+use turns::state::state_at;
 use values::size::kept_nodes;
 ghost use mathlib.Core.Path.{_≡_};
 ghost use Rattle.walk.specs.Jobs.{jobLeft, walkFirst, walkBegun, walkJob};

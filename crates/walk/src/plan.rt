@@ -1,62 +1,25 @@
 // A node of the tree expanded: its end is met, or the transition from it that comes next is chosen; none is made N deep.
-use crate::state::Plan;
-use crate::state::State;
-use crate::state::after_end;
-use crate::state::cut;
-use crate::state::state_at;
-use ends::end::meet_end;
-use heap::configuration::Branches;
+use lines::end::meet_end;
 use replay::position::Bounds;
-use replay::position::Position;
-use replay::position::at_depth;
+use replay::replay::save_if;
 use replay::room::make_room;
-use saving::saved::save;
 use tracing::ask::Asked;
 use tracing::ask::ask;
 use tracing::ask::branches;
 use tracing::ask::is_call;
 use tracing::ask::is_end;
 use trails::trail::push_choice;
+use turns::choice::is_both;
+use turns::choice::is_deep;
+use turns::choice::is_none;
+use turns::choice::take_first;
+use turns::state::Plan;
+use turns::state::State;
+use turns::state::after_end;
+use turns::state::cut;
+use turns::state::state_at;
 ghost use mathlib.Core.Path.{_≡_};
-ghost use mathlib.Core.Bool.{Bool};
-ghost use Rattle.saving.specs.Saving.{saveLeft};
-ghost use Rattle.replay.specs.Replaying.{savedIf};
-ghost use Rattle.walk.specs.Planning.{isBoth, isNone, chooseLeft, chosenAt, conditionPlanned, expanded, planned};
-
-fn is_both(b: Branches) -> bool
-    ensures { λ r. ⌜ r ≡ isBoth b ⌝ }
-{
-    if b.yes {
-        return b.no;
-    }
-    false
-}
-
-fn is_none(b: Branches) -> bool
-    ensures { λ r. ⌜ r ≡ isNone b ⌝ }
-{
-    if b.yes {
-        return false;
-    }
-    if b.no { false } else { true }
-}
-
-// Saved for the false branch, where both are there.
-fn keep(
-    frame: &[u16; 12360],
-    q: &[u16; 4096],
-    saved: &mut [u16; 16384],
-    p: Position,
-    both: bool,
-    base: usize,
-) -> usize
-    ensures { λ r. ⌜ saveLeft r (now (saved .exit)) ≡ savedIf both p base (now (frame .entry)) (now (q .entry)) (now (saved .entry)) ⌝ }
-{
-    if both {
-        return save(frame, q, saved, p.node, p.top, base);
-    }
-    p.top
-}
+ghost use Rattle.walk.specs.Planning.{chooseLeft, chosenAt, conditionPlanned, expanded, planned};
 
 // A condition: "true branch first"; a branch that contradicts is none. The choice is recorded on the path.
 fn choose(
@@ -79,12 +42,8 @@ fn choose(
     }
     let both = is_both(b);
     let depth = push_choice(path, n.depth, b.yes, both);
-    let top = keep(frame, q, saved, p, both, base);
-    Plan::Take {
-        from: state_at(at_depth(n, depth, top), s.found),
-        asked: a,
-        taken: b.yes,
-    }
+    let top = save_if(frame, q, saved, p, base, both);
+    take_first(s, depth, top, a, b)
 }
 
 // A node that is no end.
@@ -100,8 +59,7 @@ fn plan_condition(
     ensures { λ r. ⌜ chooseLeft r (now (path .exit)) (now (saved .exit)) ≡ conditionPlanned s a b (now (frame .entry)) (now (q .entry)) (now (path .entry)) (now (saved .entry)) ⌝ }
 {
     let p = s.at;
-    let n = p.node;
-    if b.steps <= n.steps {
+    if is_deep(b, p.node) {
         return cut(s);
     }
     if is_call(a) {

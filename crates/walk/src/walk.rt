@@ -1,58 +1,20 @@
 // The walk: one transition of the tree a turn.
 use crate::back::go_back;
-use crate::found;
-use crate::found::Ending;
-use crate::found::Walked;
+use crate::make::is_plain_call;
+use crate::make::make;
+use crate::make::make_call;
 use crate::plan::plan_here;
-use crate::state::Plan;
-use crate::state::State;
-use crate::state::Turn;
-use crate::state::after_move;
-use heap::configuration::Moved;
 use replay::position::Bounds;
 use sets::cell;
-use tracing::ask::Asked;
-use tracing::take::take;
-use values::size::sized;
+use turns::found;
+use turns::found::Ending;
+use turns::found::Walked;
+use turns::state::Plan;
+use turns::state::State;
+use turns::state::Turn;
 ghost use mathlib.Core.Path.{_≡_};
-ghost use mathlib.Core.Bool.{Bool};
 ghost use Rattle.walk.specs.Planning.{expanded};
-ghost use Rattle.walk.specs.Walking.{sizedMove, madeLeft, made, nextPlanned, turnLeft, walkTurn, walkedLeft, walkedOn};
-
-// "21 over 4,096 nodes: .. after a transition"
-fn sized_move(frame: &[u16; 12360], m: Moved) -> Moved
-    ensures { λ r. ⌜ r ≡ sizedMove m (now (frame .entry)) ⌝ }
-{
-    match m {
-        Moved::On(c) => sized(frame, c),
-        Moved::Contradiction => Moved::Contradiction,
-        Moved::Over => Moved::Over,
-    }
-}
-
-// The transition that comes next: "23 a transition would be number W+1".
-fn make(
-    code: &[u16; 16388],
-    heap: &mut [u16; 65535],
-    frame: &mut [u16; 12360],
-    q: &mut [u16; 4096],
-    s: State,
-    a: Asked,
-    taken: bool,
-    walk: usize,
-) -> Turn
-    ensures { λ r. ⌜ madeLeft r (now (heap .exit)) (now (frame .exit)) (now (q .exit)) ≡ made (now (code .entry)) s a taken walk (now (heap .entry)) (now (frame .entry)) (now (q .entry)) ⌝ }
-{
-    let f = s.found;
-    if walk <= f.count {
-        return Turn::Stop(found::stopped(Ending::Spent, f));
-    }
-    let p = s.at;
-    let n = p.node;
-    let m = take(code, heap, frame, q, n.at, a, taken);
-    let z = sized_move(frame, m);
-    after_move(s, z)
-}
+ghost use Rattle.walk.specs.Walking.{nextPlanned, turnLeft, walkTurn, walkedLeft, walkedOn};
 
 // What comes next, on this path or behind it.
 fn next_plan(
@@ -76,6 +38,7 @@ fn next_plan(
     }
 }
 
+// A call is made at once: nothing of a plan has to be kept for it.
 fn walk_turn(
     code: &[u16; 16388],
     heap: &mut [u16; 65535],
@@ -89,6 +52,9 @@ fn walk_turn(
 ) -> Turn
     ensures { λ r. ⌜ turnLeft r (now (heap .exit)) (now (frame .exit)) (now (q .exit)) (now (path .exit)) (now (saved .exit)) (now (answer .exit)) ≡ walkTurn (now (code .entry)) b s (now (heap .entry)) (now (frame .entry)) (now (q .entry)) (now (path .entry)) (now (saved .entry)) (now (answer .entry)) ⌝ }
 {
+    if is_plain_call(code, saved, s.at, b) {
+        return make_call(code, heap, frame, s, b.walk);
+    }
     let p = next_plan(code, heap, frame, q, path, saved, answer, s, b);
     match p {
         Plan::Take { from, asked, taken } => {

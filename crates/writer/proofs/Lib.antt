@@ -1,3 +1,1 @@
-pub mod SinkLaws
-pub mod DigitLaws
 pub mod TextTurns

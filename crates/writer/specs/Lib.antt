@@ -1,4 +1,2 @@
-pub mod Sink
-pub mod TreeText
 pub mod LineText
 pub mod OutcomeText

@@ -8,7 +8,7 @@ use lib.ListN.{length, getD, drop}
 use Rattle.language.specs.Bytes.{txt}
 use Rattle.listing.specs.Print.{digits}
 use Rattle.sets.specs.Cells.{part, treeEnd, standsIn}
-use Rattle.writer.specs.TreeText.{leafText, treeText}
+use Rattle.window.specs.TreeText.{leafText, treeText}
 
 -- where the line goes on behind what stands at k beside the job's cell c
 unfoldable pub pastAt : ℕ → List ℕ → ℕ → ℕ

@@ -6,7 +6,7 @@ use Rattle.language.specs.Bytes.{txt}
 use Rattle.listing.specs.Print.{digits}
 use Rattle.writer.specs.declared.outcome.Outcome.{Outcome}
 use Rattle.writer.specs.declared.outcome.Outcome.the-variants.{Value, Over, NotWithin}
-use Rattle.writer.specs.TreeText.{treeText}
+use Rattle.window.specs.TreeText.{treeText}
 
 unfoldable pub valueText : (ℕ → List ℕ) → ℕ → List ℕ → List ℕ
 valueText name steps cells = txt "value " ++ digits steps ++ (32 ∷ treeText name cells) ++ (10 ∷ [])

@@ -1,15 +1,15 @@
 // "then ` VAR=EXPR` for each job variable that was bound, in order of first standing in the job": the job's cells beside the line's,
 // which are the same but for what stands in the place of variables.
-use crate::leaf::put_leaf;
-use crate::parts::ahead;
-use crate::parts::part;
-use crate::sink::Place;
-use crate::sink::put_byte;
-use crate::tree::put_tree;
 use sets::cell;
+use window::leaf::put_leaf;
+use window::parts::ahead;
+use window::parts::part;
+use window::sink::Place;
+use window::sink::put_byte;
+use window::tree::put_tree;
 ghost use mathlib.Core.Path.{_≡_};
-ghost use Rattle.writer.specs.Sink.{sink, puts};
-ghost use Rattle.writer.specs.TreeText.{symbolText};
+ghost use Rattle.window.specs.Sink.{sink, puts};
+ghost use Rattle.window.specs.TreeText.{symbolText};
 ghost use Rattle.writer.specs.LineText.{pastAt, bindingAt, bindingText, bindingsText};
 
 // Where the line goes on behind what stands at k beside the job's cell c.

@@ -1,21 +1,21 @@
 // "Each line: its number, its steps", its bindings and its non-equalities. In storage a line has its steps, how many cells its inputs and
 // its output have, how many non-equalities there are, then the cells of the inputs, of the output, and two for each non-equality.
 use crate::binding::put_bindings;
-use crate::digit::put_digits;
-use crate::leaf::put_leaf;
-use crate::parts::ahead;
-use crate::parts::part;
-use crate::parts::rest;
-use crate::sink::Place;
-use crate::sink::is_full;
-use crate::sink::put_byte;
-use crate::sink::put_text;
 use sets::cell;
+use window::digit::put_digits;
+use window::leaf::put_leaf;
+use window::parts::ahead;
+use window::parts::part;
+use window::parts::rest;
+use window::sink::Place;
+use window::sink::is_full;
+use window::sink::put_byte;
+use window::sink::put_text;
 ghost use mathlib.Core.Path.{_≡_};
 ghost use mathlib.Core.List.{_++_, _∷_};
 ghost use Rattle.listing.specs.Print.{digits};
-ghost use Rattle.writer.specs.Sink.{sink, puts};
-ghost use Rattle.writer.specs.TreeText.{symbolText};
+ghost use Rattle.window.specs.Sink.{sink, puts};
+ghost use Rattle.window.specs.TreeText.{symbolText};
 ghost use Rattle.writer.specs.LineText.{nonEqualityText, restrictionText, classEnd, lineEnd, lineText, linesText};
 
 // ` # L R`

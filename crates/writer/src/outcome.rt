@@ -1,14 +1,14 @@
 // The text of a run: `value STEPS EXPR`, `stop21` or `notwithin`.
-use crate::digit::put_digits;
-use crate::parts::front;
-use crate::sink;
-use crate::sink::Place;
-use crate::tree::put_tree;
+use window::digit::put_digits;
+use window::parts::front;
+use window::sink;
+use window::sink::Place;
+use window::tree::put_tree;
 ghost use mathlib.Core.Path.{_≡_};
 ghost use Prim.Native.Nat.{_*_, _-_, min};
 ghost use lib.ListN.{length, take};
-ghost use Rattle.writer.specs.Sink.{windowed, sink, puts};
-ghost use Rattle.writer.specs.TreeText.{symbolText};
+ghost use Rattle.window.specs.Sink.{windowed, sink, puts};
+ghost use Rattle.window.specs.TreeText.{symbolText};
 ghost use Rattle.writer.specs.OutcomeText.{valueText, outcomeText};
 
 // The value has `length` cells.

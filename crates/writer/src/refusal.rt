@@ -1,12 +1,12 @@
 // The text of a refusal.
 use crate::line::put_numbers;
-use crate::sink;
-use crate::sink::Place;
+use window::sink;
+use window::sink::Place;
 ghost use mathlib.Core.Path.{_≡_};
 ghost use Prim.Native.Nat.{_-_, min};
 ghost use lib.ListN.{length};
 ghost use Rattle.listing.specs.Text.{printRefusal};
-ghost use Rattle.writer.specs.Sink.{windowed, sink, puts};
+ghost use Rattle.window.specs.Sink.{windowed, sink, puts};
 
 // "`refused p 3 17` (p program, j job, number, offset)"
 fn put_refusal(out: &mut [u8], place: Place, letter: u8, number: usize, offset: usize) -> Place

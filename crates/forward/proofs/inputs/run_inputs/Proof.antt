@@ -5,7 +5,7 @@ use Rattle.forward.proofs.inputs.run_inputs.Tie as tie
 use Rattle.forward.proofs.inputs.run_inputs.Reads as reads
 use Rattle.forward.proofs.inputs.run_inputs.Lts as lts
 use Rattle.forward.proofs.inputs.run_begun.Reads as run-begun-reads
-use Rattle.forward.proofs.inputs.settle.Reads as settle-reads
+use Rattle.running.proofs.ran.settle.Reads as settle-reads
 use Rattle.initial.proofs.begin.begin.Reads as begin-reads
 use Rattle.initial.proofs.begin.main_body.Reads as main-body-reads
 

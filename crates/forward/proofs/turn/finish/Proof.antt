@@ -6,7 +6,7 @@ use Rattle.forward.proofs.turn.finish.Reads as reads
 use Rattle.forward.proofs.turn.finish.Lts as lts
 use Rattle.forward.proofs.output.push_output.Reads as push-output-reads
 use Rattle.forward.proofs.turn.output_room.Reads as output-room-reads
-use Rattle.forward.proofs.turn.ran_by.Reads as ran-by-reads
+use Rattle.running.proofs.ran.ran_by.Reads as ran-by-reads
 
 output-room-requires : tie.Need-output-room-requires
 output-room-requires c κs = search needs

@@ -2,7 +2,7 @@
 use Prim.Native.Nat.{_-_}
 use mathlib.Core.Path.{_∙_}
 use native.Mathlib.Omega.{arith}
-use Rattle.heap.proofs.RunLaws.{Moving, moving-start, moving-next, moving-end, less-left}
+use Rattle.runs.proofs.RunLaws.{Moving, moving-start, moving-next, moving-end, less-left}
 use borrow.Author.Needs.{needs}
 use Rattle.heap.proofs.compact.move_cells.Statement.{statement}
 use Rattle.heap.proofs.compact.move_cells.Tie as tie

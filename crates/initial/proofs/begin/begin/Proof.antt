@@ -5,7 +5,7 @@ use Rattle.initial.proofs.begin.begin.Tie as tie
 use Rattle.initial.proofs.begin.begin.Reads as reads
 use Rattle.initial.proofs.begin.begin.Lts as lts
 use Rattle.initial.proofs.begin.begin_laid.Reads as begin-laid-reads
-use Rattle.initial.proofs.job.lay_job.Reads as lay-job-reads
+use Rattle.layout.proofs.job.lay_job.Reads as lay-job-reads
 
 lay-job-requires : tie.Need-lay-job-requires
 lay-job-requires c κs = search needs

@@ -4,8 +4,8 @@ use Rattle.initial.proofs.begin.begin_laid.Tie as tie
 use Rattle.initial.proofs.begin.begin_laid.Reads as reads
 use Rattle.initial.proofs.begin.begin_laid.Lts as lts
 use Rattle.initial.proofs.begin.begin_kept.Reads as begin-kept-reads
-use Rattle.initial.proofs.fresh.first_fresh.Reads as first-fresh-reads
-use Rattle.initial.proofs.job.take_sides.Reads as take-sides-reads
+use Rattle.layout.proofs.fresh.first_fresh.Reads as first-fresh-reads
+use Rattle.layout.proofs.job.take_sides.Reads as take-sides-reads
 
 enum-known-l : tie.Need-enum-known-l
 enum-known-l c = search needs

@@ -6,6 +6,7 @@ use borrow.Fn.PlainCycle.{Measures, is, falls, and}
 use Rattle.meet.proofs.reader.expression.Reads as expression
 use Rattle.meet.proofs.reader.expression.Kinds as expression-kinds
 use Rattle.meet.proofs.reader.+expression.Lts-expression as expression-lts
+use Rattle.brackets.proofs.place.inside.Reads as inside-reads
 use Rattle.meet.proofs.reader.bracket.Reads as bracket-reads
 use Rattle.meet.proofs.reader.byte.Reads as byte-reads
 use Rattle.meet.proofs.reader.expression_leaf.Reads as expression-leaf-reads
@@ -35,6 +36,8 @@ pub +expression-spec : {M : Type 1} → statement M
   expression-leaf-reads.Learnt,
   pair-start-reads.Asked,
   pair-start-reads.Learnt,
+  inside-reads.Asked,
+  inside-reads.Learnt,
   expression-below t,
   expression.Post,
   bracket-reads.Asked,
@@ -53,9 +56,8 @@ pub +expression-spec : {M : Type 1} → statement M
     (λ c. search needs)
     (λ c. search needs)
     (λ c κs. search needs)
-    (λ c. search needs)
     (λ c κs. search needs)
-    (λ c. search needs)
+    (λ c κs. search needs)
     (λ c κs. search needs)
     (λ c κs. search needs)
     (λ c. search needs)

@@ -6,7 +6,7 @@ use Rattle.meetings.proofs.binding.bind.Tie as tie
 use Rattle.meetings.proofs.binding.bind.Reads as reads
 use Rattle.meetings.proofs.binding.bind.Lts as lts
 use Rattle.meetings.proofs.binding.bind_entries.Reads as bind-entries-reads
-use Rattle.meetings.proofs.binding.bind_restriction.Reads as bind-restriction-reads
+use Rattle.heap.proofs.apply.bind_restriction.Reads as bind-restriction-reads
 use Rattle.sets.proofs.cell.cell.Reads as cell-reads
 
 cell-requires : tie.Need-cell-requires

@@ -6,7 +6,7 @@ use Rattle.pages.proofs.files.read_file.Tie as tie
 use Rattle.pages.proofs.files.read_file.Reads as reads
 use Rattle.pages.proofs.files.read_file.Lts as lts
 use Rattle.pages.proofs.files.read_path.Reads as read-path-reads
-use Rattle.writer.proofs.sink.clear.Reads as clear-reads
+use Rattle.window.proofs.sink.clear.Reads as clear-reads
 
 read-path-requires : tie.Need-read-path-requires
 read-path-requires c κs = search needs

@@ -5,7 +5,7 @@ use Rattle.pairs.proofs.branch.take_false.Tie as tie
 use Rattle.pairs.proofs.branch.take_false.Reads as reads
 use Rattle.pairs.proofs.branch.take_false.Lts as lts
 use Rattle.pairs.proofs.split.split_atom.Reads as split-atom-reads
-use Rattle.pairs.proofs.take.take_atom.Reads as take-atom-reads
+use Rattle.looking.proofs.take.take_atom.Reads as take-atom-reads
 
 enum-known-t : tie.Need-enum-known-t
 enum-known-t c = search needs

@@ -5,7 +5,7 @@ use Rattle.pairs.proofs.branch.take_true.Tie as tie
 use Rattle.pairs.proofs.branch.take_true.Reads as reads
 use Rattle.pairs.proofs.branch.take_true.Lts as lts
 use Rattle.pairs.proofs.split.split_pair.Reads as split-pair-reads
-use Rattle.pairs.proofs.take.take_pair.Reads as take-pair-reads
+use Rattle.looking.proofs.take.take_pair.Reads as take-pair-reads
 
 enum-told : tie.Need-enum-told
 enum-told c = search needs

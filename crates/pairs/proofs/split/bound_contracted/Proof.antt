@@ -5,7 +5,7 @@ use Rattle.pairs.proofs.split.bound_contracted.Tie as tie
 use Rattle.pairs.proofs.split.bound_contracted.Reads as reads
 use Rattle.pairs.proofs.split.bound_contracted.Lts as lts
 use Rattle.pairs.proofs.split.contract_all.Reads as contract-all-reads
-use Rattle.pairs.proofs.take.placed.Reads as placed-reads
+use Rattle.looking.proofs.take.placed.Reads as placed-reads
 
 enum-known-p : tie.Need-enum-known-p
 enum-known-p c = search needs

@@ -4,7 +4,7 @@ use Rattle.pairs.proofs.split.filled_on.Statement.{statement}
 use Rattle.pairs.proofs.split.filled_on.Tie as tie
 use Rattle.pairs.proofs.split.filled_on.Reads as reads
 use Rattle.pairs.proofs.split.filled_on.Lts as lts
-use Rattle.pairs.proofs.take.placed.Reads as placed-reads
+use Rattle.looking.proofs.take.placed.Reads as placed-reads
 
 enum-known-w : tie.Need-enum-known-w
 enum-known-w c = search needs

@@ -7,7 +7,7 @@ use Rattle.pairs.proofs.split.make_atom.Reads as reads
 use Rattle.pairs.proofs.split.make_atom.Lts as lts
 use Rattle.linking.proofs.code.link_at.Reads as link-at-reads
 use Rattle.pairs.proofs.split.bound_contracted.Reads as bound-contracted-reads
-use Rattle.pairs.proofs.take.bind_atom.Reads as bind-atom-reads
+use Rattle.looking.proofs.take.bind_atom.Reads as bind-atom-reads
 
 returns : tie.Need-returns
 unfolding atomMade

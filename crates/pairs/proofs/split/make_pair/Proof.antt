@@ -5,10 +5,10 @@ use Rattle.pairs.proofs.split.make_pair.Statement.{statement}
 use Rattle.pairs.proofs.split.make_pair.Tie as tie
 use Rattle.pairs.proofs.split.make_pair.Reads as reads
 use Rattle.pairs.proofs.split.make_pair.Lts as lts
-use Rattle.heap.proofs.run.append_pair.Reads as append-pair-reads
+use Rattle.runs.proofs.run.append_pair.Reads as append-pair-reads
 use Rattle.linking.proofs.code.link_at.Reads as link-at-reads
 use Rattle.pairs.proofs.split.bound_contracted.Reads as bound-contracted-reads
-use Rattle.pairs.proofs.take.bind_parts.Reads as bind-parts-reads
+use Rattle.looking.proofs.take.bind_parts.Reads as bind-parts-reads
 
 returns : tie.Need-returns
 unfolding pairMade

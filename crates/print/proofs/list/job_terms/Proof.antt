@@ -3,7 +3,7 @@ use Rattle.print.proofs.list.job_terms.Statement.{statement}
 use Rattle.print.proofs.list.job_terms.Tie as tie
 use Rattle.print.proofs.list.job_terms.Reads as reads
 use Rattle.print.proofs.list.job_terms.Lts as lts
-use Rattle.initial.proofs.job.lay_job.Reads as lay-job-reads
+use Rattle.layout.proofs.job.lay_job.Reads as lay-job-reads
 
 enum-known-both : tie.Need-enum-known-both
 enum-known-both c = search needs

@@ -1,11 +1,11 @@
 use Prim.Native.Nat.{ℕ}
 use mathlib.Core.Path.{ap, ap₂, _∙_}
 use mathlib.Core.List.{List}
-use Rattle.writer.specs.Sink.{puts}
-use Rattle.writer.specs.TreeText.{symbolText}
+use Rattle.window.specs.Sink.{puts}
+use Rattle.window.specs.TreeText.{symbolText}
 use Rattle.writer.specs.LineText.{linesText}
 use Rattle.print.specs.ListingText.{listingText}
-use Rattle.writer.proofs.SinkLaws.{behind, printed}
+use Rattle.window.proofs.SinkLaws.{behind, printed}
 use borrow.Author.Needs.{needs}
 use Rattle.print.proofs.list.print_listing.Statement.{statement}
 use Rattle.print.proofs.list.print_listing.Tie as tie
@@ -13,10 +13,10 @@ use Rattle.print.proofs.list.print_listing.Reads as reads
 use Rattle.print.proofs.list.print_listing.Lts as lts
 use Rattle.print.proofs.list.put_first.Reads as put-first-reads
 use Rattle.writer.proofs.line.put_lines.Reads as put-lines-reads
-use Rattle.writer.proofs.parts.front.Reads as front-reads
-use Rattle.writer.proofs.sink.clear.Reads as clear-reads
-use Rattle.writer.proofs.sink.opened.Reads as opened-reads
-use Rattle.writer.proofs.sink.written.Reads as written-reads
+use Rattle.window.proofs.parts.front.Reads as front-reads
+use Rattle.window.proofs.sink.clear.Reads as clear-reads
+use Rattle.window.proofs.sink.opened.Reads as opened-reads
+use Rattle.window.proofs.sink.written.Reads as written-reads
 
 mul-front : tie.Need-mul-front
 mul-front c = search needs

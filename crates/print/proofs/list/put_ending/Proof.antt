@@ -3,7 +3,7 @@ use Rattle.print.proofs.list.put_ending.Statement.{statement}
 use Rattle.print.proofs.list.put_ending.Tie as tie
 use Rattle.print.proofs.list.put_ending.Reads as reads
 use Rattle.print.proofs.list.put_ending.Lts as lts
-use Rattle.writer.proofs.sink.put_text.Reads as put-text-reads
+use Rattle.window.proofs.sink.put_text.Reads as put-text-reads
 
 enum-told : tie.Need-enum-told
 enum-told c = search needs

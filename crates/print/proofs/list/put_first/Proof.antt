@@ -1,4 +1,4 @@
-use Rattle.writer.proofs.SinkLaws.{behind}
+use Rattle.window.proofs.SinkLaws.{behind}
 use Rattle.print.specs.ListingText.{firstText}
 use borrow.Author.Needs.{needs}
 use Rattle.print.proofs.list.put_first.Statement.{statement}
@@ -7,7 +7,7 @@ use Rattle.print.proofs.list.put_first.Reads as reads
 use Rattle.print.proofs.list.put_first.Lts as lts
 use Rattle.writer.proofs.line.put_numbers.Reads as put-numbers-reads
 use Rattle.print.proofs.list.put_ending.Reads as put-ending-reads
-use Rattle.writer.proofs.sink.put_byte.Reads as put-byte-reads
+use Rattle.window.proofs.sink.put_byte.Reads as put-byte-reads
 
 put-ending-requires : tie.Need-put-ending-requires
 put-ending-requires c κs = search needs

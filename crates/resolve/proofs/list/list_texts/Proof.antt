@@ -9,7 +9,7 @@ use Rattle.initial.proofs.begin.main_body.Reads as main-body-reads
 use Rattle.linking.proofs.program.link_program.Reads as link-program-reads
 use Rattle.resolve.proofs.list.came_to.Reads as came-to-reads
 use Rattle.texts.proofs.both.read_both.Reads as read-both-reads
-use Rattle.texts.proofs.clear.clear.Reads as clear-reads
+use Rattle.lent.proofs.clear.clear.Reads as clear-reads
 use Rattle.walk.proofs.job.walk_job.Reads as walk-job-reads
 
 slice-aggregate-read-both : tie.Need-slice-aggregate-read-both

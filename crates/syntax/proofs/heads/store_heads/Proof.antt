@@ -4,7 +4,7 @@ use Rattle.syntax.proofs.heads.store_heads.Statement.{statement}
 use Rattle.syntax.proofs.heads.store_heads.Tie as tie
 use Rattle.syntax.proofs.heads.store_heads.Reads as reads
 use Rattle.syntax.proofs.heads.store_heads.Lts as lts
-use Rattle.checker.proofs.check_program.definitions.Reads as definitions-reads
+use Rattle.programs.proofs.check_program.definitions.Reads as definitions-reads
 use Rattle.syntax.proofs.heads.store.Reads as store-reads
 
 definitions-requires : tie.Need-definitions-requires

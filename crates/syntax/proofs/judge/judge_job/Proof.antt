@@ -3,7 +3,7 @@ use Rattle.syntax.proofs.judge.judge_job.Statement.{statement}
 use Rattle.syntax.proofs.judge.judge_job.Tie as tie
 use Rattle.syntax.proofs.judge.judge_job.Reads as reads
 use Rattle.syntax.proofs.judge.judge_job.Lts as lts
-use Rattle.syntax.proofs.check_job.check_job.Reads as check-job-reads
+use Rattle.job_checker.proofs.check_job.check_job.Reads as check-job-reads
 use Rattle.grammar.proofs.jobs.job.Reads as job-reads
 use Rattle.syntax.proofs.judge.after_check.Reads as after-check-reads
 

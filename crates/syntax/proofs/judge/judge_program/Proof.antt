@@ -3,7 +3,7 @@ use Rattle.syntax.proofs.judge.judge_program.Statement.{statement}
 use Rattle.syntax.proofs.judge.judge_program.Tie as tie
 use Rattle.syntax.proofs.judge.judge_program.Reads as reads
 use Rattle.syntax.proofs.judge.judge_program.Lts as lts
-use Rattle.checker.proofs.check_program.check_program.Reads as check-program-reads
+use Rattle.programs.proofs.check_program.check_program.Reads as check-program-reads
 use Rattle.grammar.proofs.definitions.program.Reads as program-reads
 use Rattle.syntax.proofs.judge.after_check.Reads as after-check-reads
 

@@ -3,7 +3,7 @@ use Rattle.syntax.proofs.numerals.job_numerals.Statement.{statement}
 use Rattle.syntax.proofs.numerals.job_numerals.Tie as tie
 use Rattle.syntax.proofs.numerals.job_numerals.Reads as reads
 use Rattle.syntax.proofs.numerals.job_numerals.Lts as lts
-use Rattle.syntax.proofs.check_job.numeral.Reads as numeral-reads
+use Rattle.job_checker.proofs.check_job.numeral.Reads as numeral-reads
 use Rattle.checker.proofs.places.ahead.Reads as ahead-reads
 use Rattle.checker.proofs.places.offset.Reads as offset-reads
 

@@ -5,7 +5,7 @@ use Rattle.texts.proofs.both.room_for_both.Statement.{statement}
 use Rattle.texts.proofs.both.room_for_both.Tie as tie
 use Rattle.texts.proofs.both.room_for_both.Reads as reads
 use Rattle.texts.proofs.both.room_for_both.Lts as lts
-use Rattle.texts.proofs.read.long_enough.Reads as long-enough-reads
+use Rattle.lent.proofs.read.long_enough.Reads as long-enough-reads
 
 returns : tie.Need-returns
 returns c = rw (lt-ltb _ _ (c .if1 .taken)) refl

@@ -6,8 +6,8 @@ use Rattle.texts.proofs.read_job.cut_job.Statement.{statement}
 use Rattle.texts.proofs.read_job.cut_job.Tie as tie
 use Rattle.texts.proofs.read_job.cut_job.Reads as reads
 use Rattle.texts.proofs.read_job.cut_job.Lts as lts
-use Rattle.texts.proofs.clear.clear.Reads as clear-reads
-use Rattle.texts.proofs.clear.clear_tokens.Reads as clear-tokens-reads
+use Rattle.lent.proofs.clear.clear.Reads as clear-reads
+use Rattle.lent.proofs.clear.clear_tokens.Reads as clear-tokens-reads
 use Rattle.lexer.proofs.LexedLaws.{out-of}
 use Rattle.lexer.proofs.lexer.cut_tokens.Reads as cut-tokens-reads
 use Rattle.syntax.proofs.judge.judge_job.Reads as judge-job-reads

@@ -6,8 +6,8 @@ use Rattle.texts.proofs.read_program.cut_program.Statement.{statement}
 use Rattle.texts.proofs.read_program.cut_program.Tie as tie
 use Rattle.texts.proofs.read_program.cut_program.Reads as reads
 use Rattle.texts.proofs.read_program.cut_program.Lts as lts
-use Rattle.texts.proofs.clear.clear.Reads as clear-reads
-use Rattle.texts.proofs.clear.clear_tokens.Reads as clear-tokens-reads
+use Rattle.lent.proofs.clear.clear.Reads as clear-reads
+use Rattle.lent.proofs.clear.clear_tokens.Reads as clear-tokens-reads
 use Rattle.lexer.proofs.LexedLaws.{out-of}
 use Rattle.lexer.proofs.lexer.cut_tokens.Reads as cut-tokens-reads
 use Rattle.syntax.proofs.judge.judge_program.Reads as judge-program-reads

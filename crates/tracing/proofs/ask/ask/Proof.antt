@@ -7,7 +7,7 @@ use Rattle.tracing.proofs.ask.ask.Reads as reads
 use Rattle.tracing.proofs.ask.ask.Lts as lts
 use Rattle.atoms.proofs.atom.sides_at.Reads as sides-at-reads
 use Rattle.linking.proofs.code.link_at.Reads as link-at-reads
-use Rattle.pairs.proofs.look.look.Reads as look-reads
+use Rattle.looking.proofs.look.look.Reads as look-reads
 
 link-at-requires : tie.Need-link-at-requires
 link-at-requires c κs = search needs

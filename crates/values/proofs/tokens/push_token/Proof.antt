@@ -5,7 +5,7 @@ use Rattle.values.proofs.tokens.push_token.Statement.{statement}
 use Rattle.values.proofs.tokens.push_token.Tie as tie
 use Rattle.values.proofs.tokens.push_token.Reads as reads
 use Rattle.values.proofs.tokens.push_token.Lts as lts
-use Rattle.heap.proofs.run.append.Reads as append-reads
+use Rattle.runs.proofs.run.append.Reads as append-reads
 use Rattle.linking.proofs.code.link_at.Reads as link-at-reads
 use Rattle.values.proofs.tokens.entry_at.Reads as entry-at-reads
 use Rattle.values.proofs.tokens.place_at.Reads as place-at-reads

@@ -9,8 +9,8 @@ use Rattle.replay.proofs.position.at_depth.Reads as at-depth-reads
 use Rattle.replay.proofs.replay.bring_back.Reads as bring-back-reads
 use Rattle.tracing.proofs.ask.ask.Reads as ask-reads
 use Rattle.trails.proofs.trail.backtrack.Reads as backtrack-reads
-use Rattle.walk.proofs.found.stopped.Reads as stopped-reads
-use Rattle.walk.proofs.state.state_at.Reads as state-at-reads
+use Rattle.turns.proofs.found.stopped.Reads as stopped-reads
+use Rattle.turns.proofs.state.state_at.Reads as state-at-reads
 
 backtrack-requires : tie.Need-backtrack-requires
 backtrack-requires c κs = search needs

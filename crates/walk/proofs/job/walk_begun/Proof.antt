@@ -1,17 +1,17 @@
 use mathlib.Core.Path.{ap, _∙_}
 use borrow.Author.Tests.{lt-ltb, le-ltb, eq-eqb, ne-eqb}
-use Rattle.walk.specs.Finding.{walked, cutOff}
+use Rattle.turns.specs.Finding.{walked, cutOff}
 use Rattle.walk.specs.Jobs.{walkBegun}
-use Rattle.walk.specs.declared.found.Ending.the-variants.{Done, Over, Spent}
+use Rattle.turns.specs.declared.found.Ending.the-variants.{Done, Over, Spent}
 use borrow.Author.Needs.{needs}
 use Rattle.walk.proofs.job.walk_begun.Statement.{statement}
 use Rattle.walk.proofs.job.walk_begun.Tie as tie
 use Rattle.walk.proofs.job.walk_begun.Reads as reads
 use Rattle.walk.proofs.job.walk_begun.Lts as lts
 use Rattle.values.proofs.size.kept_nodes.Reads as kept-nodes-reads
-use Rattle.walk.proofs.found.cut_off.Reads as cut-off-reads
-use Rattle.walk.proofs.found.nothing.Reads as nothing-reads
-use Rattle.walk.proofs.found.stopped.Reads as stopped-reads
+use Rattle.turns.proofs.found.cut_off.Reads as cut-off-reads
+use Rattle.turns.proofs.found.nothing.Reads as nothing-reads
+use Rattle.turns.proofs.found.stopped.Reads as stopped-reads
 use Rattle.walk.proofs.job.walk_first.Reads as walk-first-reads
 
 kept-nodes-requires : tie.Need-kept-nodes-requires

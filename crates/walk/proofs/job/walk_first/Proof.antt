@@ -5,9 +5,9 @@ use Rattle.walk.proofs.job.walk_first.Tie as tie
 use Rattle.walk.proofs.job.walk_first.Reads as reads
 use Rattle.walk.proofs.job.walk_first.Lts as lts
 use Rattle.saving.proofs.saved.save.Reads as save-reads
-use Rattle.walk.proofs.found.count.Reads as count-reads
-use Rattle.walk.proofs.found.nothing.Reads as nothing-reads
-use Rattle.walk.proofs.state.state_at.Reads as state-at-reads
+use Rattle.turns.proofs.found.count.Reads as count-reads
+use Rattle.turns.proofs.found.nothing.Reads as nothing-reads
+use Rattle.turns.proofs.state.state_at.Reads as state-at-reads
 use Rattle.walk.proofs.walk.walk_on.Reads as walk-on-reads
 
 save-requires : tie.Need-save-requires

@@ -5,8 +5,8 @@ use Rattle.walk.proofs.job.walk_job.Tie as tie
 use Rattle.walk.proofs.job.walk_job.Reads as reads
 use Rattle.walk.proofs.job.walk_job.Lts as lts
 use Rattle.initial.proofs.begin.begin.Reads as begin-reads
-use Rattle.walk.proofs.found.nothing.Reads as nothing-reads
-use Rattle.walk.proofs.found.stopped.Reads as stopped-reads
+use Rattle.turns.proofs.found.nothing.Reads as nothing-reads
+use Rattle.turns.proofs.found.stopped.Reads as stopped-reads
 use Rattle.walk.proofs.job.walk_begun.Reads as walk-begun-reads
 
 begin-requires : tie.Need-begin-requires

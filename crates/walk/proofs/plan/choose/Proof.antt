@@ -6,13 +6,12 @@ use Rattle.walk.proofs.plan.choose.Statement.{statement}
 use Rattle.walk.proofs.plan.choose.Tie as tie
 use Rattle.walk.proofs.plan.choose.Reads as reads
 use Rattle.walk.proofs.plan.choose.Lts as lts
-use Rattle.replay.proofs.position.at_depth.Reads as at-depth-reads
+use Rattle.replay.proofs.replay.save_if.Reads as save-if-reads
 use Rattle.tracing.proofs.ask.branches.Reads as branches-reads
 use Rattle.trails.proofs.trail.push_choice.Reads as push-choice-reads
-use Rattle.walk.proofs.plan.is_both.Reads as is-both-reads
-use Rattle.walk.proofs.plan.is_none.Reads as is-none-reads
-use Rattle.walk.proofs.plan.keep.Reads as keep-reads
-use Rattle.walk.proofs.state.state_at.Reads as state-at-reads
+use Rattle.turns.proofs.choice.is_both.Reads as is-both-reads
+use Rattle.turns.proofs.choice.is_none.Reads as is-none-reads
+use Rattle.turns.proofs.choice.take_first.Reads as take-first-reads
 
 branches-requires : tie.Need-branches-requires
 branches-requires c κs = search needs
@@ -30,22 +29,19 @@ is-both-requires c κs = search needs
 push-choice-requires : tie.Need-push-choice-requires
 push-choice-requires c κs = search needs
 
-keep-requires : tie.Need-keep-requires
-keep-requires c κs = search needs
+save-if-requires : tie.Need-save-if-requires
+save-if-requires c κs = search needs
 
-at-depth-requires : tie.Need-at-depth-requires
-at-depth-requires c κs = search needs
-
-state-at-requires : tie.Need-state-at-requires
-state-at-requires c κs = search needs
+take-first-requires : tie.Need-take-first-requires
+take-first-requires c κs = search needs
 
 returns-2 : tie.Need-returns-2
 unfolding chosenAt
 returns-2 c =
-    let b = c .before .before .before .before .before .before in
+    let b = c .before .before .before .before .before in
     let i = b .before in
-    let p = c .before .before .before .before in
-    rw (← (i .before .before .branches .ensures), ← (i .before .is-none .ensures), i .if1 .left, ← (b .is-both .ensures), ← (ap (λ (w : PathLeft). w .depth) (p .push-choice .ensures)), ← (ap (λ (w : PathLeft). w .path) (p .push-choice .ensures)), ← (c .before .before .keep .ensures), ← (c .before .at-depth .ensures), ← (c .state-at .ensures))
+    let p = c .before .before .before in
+    rw (← (i .before .before .branches .ensures), ← (i .before .is-none .ensures), i .if1 .left, ← (b .is-both .ensures), ← (ap (λ (w : PathLeft). w .depth) (p .push-choice .ensures)), ← (ap (λ (w : PathLeft). w .path) (p .push-choice .ensures)), ← (c .before .save-if .ensures), ← (c .take-first .ensures))
 
 pub choose-spec : {M : Type 1} → statement M
 choose-spec =
@@ -56,7 +52,6 @@ choose-spec =
     returns
     is-both-requires
     push-choice-requires
-    keep-requires
-    at-depth-requires
-    state-at-requires
+    save-if-requires
+    take-first-requires
     returns-2)

@@ -4,13 +4,13 @@ use Rattle.walk.proofs.plan.plan_here.Statement.{statement}
 use Rattle.walk.proofs.plan.plan_here.Tie as tie
 use Rattle.walk.proofs.plan.plan_here.Reads as reads
 use Rattle.walk.proofs.plan.plan_here.Lts as lts
-use Rattle.ends.proofs.end.meet_end.Reads as meet-end-reads
+use Rattle.lines.proofs.end.meet_end.Reads as meet-end-reads
 use Rattle.replay.proofs.room.make_room.Reads as make-room-reads
 use Rattle.tracing.proofs.ask.ask.Reads as ask-reads
 use Rattle.tracing.proofs.ask.is_end.Reads as is-end-reads
 use Rattle.walk.proofs.plan.plan_condition.Reads as plan-condition-reads
-use Rattle.walk.proofs.state.after_end.Reads as after-end-reads
-use Rattle.walk.proofs.state.state_at.Reads as state-at-reads
+use Rattle.turns.proofs.state.after_end.Reads as after-end-reads
+use Rattle.turns.proofs.state.state_at.Reads as state-at-reads
 
 make-room-requires : tie.Need-make-room-requires
 make-room-requires c κs = search needs

@@ -8,7 +8,7 @@ use Rattle.walk.proofs.walk.walk_on.Tie as tie
 use Rattle.walk.proofs.walk.walk_on.Reads as reads
 use Rattle.walk.proofs.walk.walk_on.Lts as lts
 use Rattle.sets.proofs.cell.least.Reads as least-reads
-use Rattle.walk.proofs.found.stopped.Reads as stopped-reads
+use Rattle.turns.proofs.found.stopped.Reads as stopped-reads
 use Rattle.walk.proofs.walk.walk_turn.Reads as walk-turn-reads
 
 abbrev Inv-loop : tie.InvT-loop

@@ -5,7 +5,7 @@ use Rattle.writer.proofs.binding.past.Statement.{statement}
 use Rattle.writer.proofs.binding.past.Tie as tie
 use Rattle.writer.proofs.binding.past.Reads as reads
 use Rattle.writer.proofs.binding.past.Lts as lts
-use Rattle.writer.proofs.parts.ahead.Reads as ahead-reads
+use Rattle.window.proofs.parts.ahead.Reads as ahead-reads
 use Rattle.sets.proofs.cell.tree_end.Reads as tree-end-reads
 
 ahead-requires : tie.Need-ahead-requires

@@ -1,5 +1,5 @@
 use borrow.Author.Tests.{lt-ltb, le-ltb, eq-eqb, ne-eqb}
-use Rattle.writer.specs.Sink.{puts}
+use Rattle.window.specs.Sink.{puts}
 use Rattle.writer.specs.LineText.{bindingAt}
 use borrow.Author.Needs.{needs}
 use Rattle.writer.proofs.binding.put_binding.Statement.{statement}

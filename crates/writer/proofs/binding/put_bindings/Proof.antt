@@ -1,9 +1,9 @@
 use mathlib.Core.Path.{_≡_, refl, ap, _∙_, sym}
 use Prim.Native.Nat.{_-_}
 use lib.ListN.{length}
-use Rattle.writer.specs.Sink.{sink, puts}
-use Rattle.writer.proofs.SinkLaws.{onward, puts-none}
-use Rattle.writer.specs.TreeText.{symbolText}
+use Rattle.window.specs.Sink.{sink, puts}
+use Rattle.window.proofs.SinkLaws.{onward, puts-none}
+use Rattle.window.specs.TreeText.{symbolText}
 use Rattle.writer.specs.LineText.{bindingsFrom, bindingsText}
 use Rattle.writer.proofs.TextTurns.{bindings-start, bindings-step, bindings-end}
 use borrow.Author.Needs.{needs}

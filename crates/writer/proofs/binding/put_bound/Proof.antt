@@ -1,14 +1,14 @@
-use Rattle.writer.proofs.SinkLaws.{behind}
+use Rattle.window.proofs.SinkLaws.{behind}
 use Rattle.writer.specs.LineText.{bindingText}
 use borrow.Author.Needs.{needs}
 use Rattle.writer.proofs.binding.put_bound.Statement.{statement}
 use Rattle.writer.proofs.binding.put_bound.Tie as tie
 use Rattle.writer.proofs.binding.put_bound.Reads as reads
 use Rattle.writer.proofs.binding.put_bound.Lts as lts
-use Rattle.writer.proofs.leaf.put_leaf.Reads as put-leaf-reads
-use Rattle.writer.proofs.parts.part.Reads as part-reads
-use Rattle.writer.proofs.sink.put_byte.Reads as put-byte-reads
-use Rattle.writer.proofs.tree.put_tree.Reads as put-tree-reads
+use Rattle.window.proofs.leaf.put_leaf.Reads as put-leaf-reads
+use Rattle.window.proofs.parts.part.Reads as part-reads
+use Rattle.window.proofs.sink.put_byte.Reads as put-byte-reads
+use Rattle.window.proofs.tree.put_tree.Reads as put-tree-reads
 
 put-byte-requires : tie.Need-put-byte-requires
 put-byte-requires c κs = search needs

@@ -1,4 +1,4 @@
-use Rattle.writer.proofs.SinkLaws.{behind}
+use Rattle.window.proofs.SinkLaws.{behind}
 use Rattle.writer.specs.LineText.{lineText}
 use borrow.Author.Needs.{needs}
 use Rattle.writer.proofs.line.put_line.Statement.{statement}
@@ -10,8 +10,8 @@ use Rattle.writer.proofs.line.class_end.Reads as class-end-reads
 use Rattle.writer.proofs.line.line_end.Reads as line-end-reads
 use Rattle.writer.proofs.line.put_numbers.Reads as put-numbers-reads
 use Rattle.writer.proofs.line.put_restriction.Reads as put-restriction-reads
-use Rattle.writer.proofs.parts.part.Reads as part-reads
-use Rattle.writer.proofs.sink.put_byte.Reads as put-byte-reads
+use Rattle.window.proofs.parts.part.Reads as part-reads
+use Rattle.window.proofs.sink.put_byte.Reads as put-byte-reads
 use Rattle.sets.proofs.cell.cell.Reads as cell-reads
 
 class-end-requires : tie.Need-class-end-requires

@@ -3,9 +3,9 @@ use Prim.Native.Nat.{ℕ, _+_, _-_, _<_, min}
 use mathlib.Core.List.{List, _++_}
 use native.Mathlib.Omega.{arith}
 use lib.ListN.{length, drop, length-drop}
-use Rattle.writer.specs.Sink.{sink, puts}
-use Rattle.writer.proofs.SinkLaws.{onward, puts-none, puts-full}
-use Rattle.writer.specs.TreeText.{symbolText}
+use Rattle.window.specs.Sink.{sink, puts}
+use Rattle.window.proofs.SinkLaws.{onward, puts-none, puts-full}
+use Rattle.window.specs.TreeText.{symbolText}
 use Rattle.writer.specs.LineText.{lineEnd, lineText, linesText}
 use Rattle.writer.proofs.TextTurns.{lines-start, lines-out, lines-step, lines-end, drop-ahead}
 use borrow.Author.Needs.{needs}
@@ -15,9 +15,9 @@ use Rattle.writer.proofs.line.put_lines.Reads as reads
 use Rattle.writer.proofs.line.put_lines.Lts as lts
 use Rattle.writer.proofs.line.line_end.Reads as line-end-reads
 use Rattle.writer.proofs.line.put_line.Reads as put-line-reads
-use Rattle.writer.proofs.parts.ahead.Reads as ahead-reads
-use Rattle.writer.proofs.parts.rest.Reads as rest-reads
-use Rattle.writer.proofs.sink.is_full.Reads as is-full-reads
+use Rattle.window.proofs.parts.ahead.Reads as ahead-reads
+use Rattle.window.proofs.parts.rest.Reads as rest-reads
+use Rattle.window.proofs.sink.is_full.Reads as is-full-reads
 
 abbrev Inv-loop : tie.InvT-loop
 Inv-loop out₀ program job symbols io lines answer p₀ i₀ at₀ out p i at = (length out ≡ length out₀) × (puts (sink p₀ out₀) (linesText (symbolText program job symbols) io lines 0 answer) ≡ puts (sink p out) (linesText (symbolText program job symbols) io (lines - i) i (drop at answer)))

@@ -1,13 +1,13 @@
-use Rattle.writer.proofs.SinkLaws.{behind}
+use Rattle.window.proofs.SinkLaws.{behind}
 use Rattle.writer.specs.LineText.{nonEqualityText}
 use borrow.Author.Needs.{needs}
 use Rattle.writer.proofs.line.put_non_equality.Statement.{statement}
 use Rattle.writer.proofs.line.put_non_equality.Tie as tie
 use Rattle.writer.proofs.line.put_non_equality.Reads as reads
 use Rattle.writer.proofs.line.put_non_equality.Lts as lts
-use Rattle.writer.proofs.leaf.put_leaf.Reads as put-leaf-reads
-use Rattle.writer.proofs.sink.put_byte.Reads as put-byte-reads
-use Rattle.writer.proofs.sink.put_text.Reads as put-text-reads
+use Rattle.window.proofs.leaf.put_leaf.Reads as put-leaf-reads
+use Rattle.window.proofs.sink.put_byte.Reads as put-byte-reads
+use Rattle.window.proofs.sink.put_text.Reads as put-text-reads
 
 slice-aggregate-put-text : tie.Need-slice-aggregate-put-text
 slice-aggregate-put-text c = search needs

@@ -1,11 +1,11 @@
-use Rattle.writer.proofs.SinkLaws.{behind}
+use Rattle.window.proofs.SinkLaws.{behind}
 use borrow.Author.Needs.{needs}
 use Rattle.writer.proofs.line.put_numbers.Statement.{statement}
 use Rattle.writer.proofs.line.put_numbers.Tie as tie
 use Rattle.writer.proofs.line.put_numbers.Reads as reads
 use Rattle.writer.proofs.line.put_numbers.Lts as lts
-use Rattle.writer.proofs.digit.put_digits.Reads as put-digits-reads
-use Rattle.writer.proofs.sink.put_byte.Reads as put-byte-reads
+use Rattle.window.proofs.digit.put_digits.Reads as put-digits-reads
+use Rattle.window.proofs.sink.put_byte.Reads as put-byte-reads
 
 put-digits-requires : tie.Need-put-digits-requires
 put-digits-requires c κs = search needs

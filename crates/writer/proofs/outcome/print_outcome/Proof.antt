@@ -1,20 +1,20 @@
 use mathlib.Core.Path.{ap, _∙_}
 use Prim.Native.Nat.{ℕ}
 use mathlib.Core.List.{List}
-use Rattle.writer.specs.Sink.{puts}
-use Rattle.writer.specs.TreeText.{symbolText}
+use Rattle.window.specs.Sink.{puts}
+use Rattle.window.specs.TreeText.{symbolText}
 use Rattle.writer.specs.OutcomeText.{outcomeText}
-use Rattle.writer.proofs.SinkLaws.{printed}
+use Rattle.window.proofs.SinkLaws.{printed}
 use borrow.Author.Needs.{needs}
 use Rattle.writer.proofs.outcome.print_outcome.Statement.{statement}
 use Rattle.writer.proofs.outcome.print_outcome.Tie as tie
 use Rattle.writer.proofs.outcome.print_outcome.Reads as reads
 use Rattle.writer.proofs.outcome.print_outcome.Lts as lts
 use Rattle.writer.proofs.outcome.put_outcome.Reads as put-outcome-reads
-use Rattle.writer.proofs.parts.front.Reads as front-reads
-use Rattle.writer.proofs.sink.clear.Reads as clear-reads
-use Rattle.writer.proofs.sink.opened.Reads as opened-reads
-use Rattle.writer.proofs.sink.written.Reads as written-reads
+use Rattle.window.proofs.parts.front.Reads as front-reads
+use Rattle.window.proofs.sink.clear.Reads as clear-reads
+use Rattle.window.proofs.sink.opened.Reads as opened-reads
+use Rattle.window.proofs.sink.written.Reads as written-reads
 
 mul-front : tie.Need-mul-front
 mul-front c = search needs

@@ -1,6 +1,6 @@
 use mathlib.Core.Path.{ap, _∙_}
-use Rattle.writer.specs.Sink.{puts}
-use Rattle.writer.specs.TreeText.{symbolText}
+use Rattle.window.specs.Sink.{puts}
+use Rattle.window.specs.TreeText.{symbolText}
 use Rattle.writer.specs.OutcomeText.{valueText}
 use borrow.Author.Needs.{needs}
 use Rattle.writer.proofs.outcome.put_outcome.Statement.{statement}
@@ -8,8 +8,8 @@ use Rattle.writer.proofs.outcome.put_outcome.Tie as tie
 use Rattle.writer.proofs.outcome.put_outcome.Reads as reads
 use Rattle.writer.proofs.outcome.put_outcome.Lts as lts
 use Rattle.writer.proofs.outcome.put_value.Reads as put-value-reads
-use Rattle.writer.proofs.parts.front.Reads as front-reads
-use Rattle.writer.proofs.sink.put_text.Reads as put-text-reads
+use Rattle.window.proofs.parts.front.Reads as front-reads
+use Rattle.window.proofs.sink.put_text.Reads as put-text-reads
 
 enum-known-outcome : tie.Need-enum-known-outcome
 enum-known-outcome c = search needs

@@ -1,14 +1,14 @@
-use Rattle.writer.proofs.SinkLaws.{behind}
+use Rattle.window.proofs.SinkLaws.{behind}
 use Rattle.writer.specs.OutcomeText.{valueText}
 use borrow.Author.Needs.{needs}
 use Rattle.writer.proofs.outcome.put_value.Statement.{statement}
 use Rattle.writer.proofs.outcome.put_value.Tie as tie
 use Rattle.writer.proofs.outcome.put_value.Reads as reads
 use Rattle.writer.proofs.outcome.put_value.Lts as lts
-use Rattle.writer.proofs.digit.put_digits.Reads as put-digits-reads
-use Rattle.writer.proofs.sink.put_byte.Reads as put-byte-reads
-use Rattle.writer.proofs.sink.put_text.Reads as put-text-reads
-use Rattle.writer.proofs.tree.put_tree.Reads as put-tree-reads
+use Rattle.window.proofs.digit.put_digits.Reads as put-digits-reads
+use Rattle.window.proofs.sink.put_byte.Reads as put-byte-reads
+use Rattle.window.proofs.sink.put_text.Reads as put-text-reads
+use Rattle.window.proofs.tree.put_tree.Reads as put-tree-reads
 
 slice-aggregate-put-text : tie.Need-slice-aggregate-put-text
 slice-aggregate-put-text c = search needs

@@ -1,13 +1,13 @@
-use Rattle.writer.proofs.SinkLaws.{printed}
+use Rattle.window.proofs.SinkLaws.{printed}
 use borrow.Author.Needs.{needs}
 use Rattle.writer.proofs.refusal.print_refusal.Statement.{statement}
 use Rattle.writer.proofs.refusal.print_refusal.Tie as tie
 use Rattle.writer.proofs.refusal.print_refusal.Reads as reads
 use Rattle.writer.proofs.refusal.print_refusal.Lts as lts
 use Rattle.writer.proofs.refusal.put_refusal.Reads as put-refusal-reads
-use Rattle.writer.proofs.sink.clear.Reads as clear-reads
-use Rattle.writer.proofs.sink.opened.Reads as opened-reads
-use Rattle.writer.proofs.sink.written.Reads as written-reads
+use Rattle.window.proofs.sink.clear.Reads as clear-reads
+use Rattle.window.proofs.sink.opened.Reads as opened-reads
+use Rattle.window.proofs.sink.written.Reads as written-reads
 
 clear-requires : tie.Need-clear-requires
 clear-requires c κs = search needs

@@ -1,6 +1,6 @@
 use mathlib.Core.Path.{ap, _∙_}
-use Rattle.writer.specs.Sink.{puts}
-use Rattle.writer.proofs.SinkLaws.{behind}
+use Rattle.window.specs.Sink.{puts}
+use Rattle.window.proofs.SinkLaws.{behind}
 use Rattle.writer.proofs.TextTurns.{refusal-text}
 use borrow.Author.Needs.{needs}
 use Rattle.writer.proofs.refusal.put_refusal.Statement.{statement}
@@ -8,8 +8,8 @@ use Rattle.writer.proofs.refusal.put_refusal.Tie as tie
 use Rattle.writer.proofs.refusal.put_refusal.Reads as reads
 use Rattle.writer.proofs.refusal.put_refusal.Lts as lts
 use Rattle.writer.proofs.line.put_numbers.Reads as put-numbers-reads
-use Rattle.writer.proofs.sink.put_byte.Reads as put-byte-reads
-use Rattle.writer.proofs.sink.put_text.Reads as put-text-reads
+use Rattle.window.proofs.sink.put_byte.Reads as put-byte-reads
+use Rattle.window.proofs.sink.put_text.Reads as put-text-reads
 
 slice-aggregate-put-text : tie.Need-slice-aggregate-put-text
 slice-aggregate-put-text c = search needs

@@ -1,0 +1,2 @@
+pub mod JobCheckAt
+pub mod JobStored

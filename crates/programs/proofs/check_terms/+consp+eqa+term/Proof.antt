@@ -1,0 +1,1177 @@
+use native.Mathlib.Nat.{le-refl}
+use native.Mathlib.Omega.{arith}
+use borrow.Author.Tests.{eq-eqb, ne-eqb}
+use Rattle.checker.proofs.CheckOpenings.{term-more, term-none}
+use Rattle.checker.proofs.ReachLaws.{at-most, kept-all, kept-on, put-kept, put-more, term-kept, consp-found, by-way}
+use borrow.Author.Needs.{needs}
+use Prim.Native.Nat.{ℕ, _+_, _<_}
+use borrow.Fn.Kinds.{In}
+use borrow.Fn.PlainCycle.{Measures, is, falls, and}
+use Rattle.programs.proofs.check_terms.consp.Reads as consp
+use Rattle.programs.proofs.check_terms.consp.Kinds as consp-kinds
+use Rattle.programs.proofs.check_terms.+consp+eqa+term.Lts-consp as consp-lts
+use Rattle.programs.proofs.check_terms.eqa.Reads as eqa
+use Rattle.programs.proofs.check_terms.eqa.Kinds as eqa-kinds
+use Rattle.programs.proofs.check_terms.+consp+eqa+term.Lts-eqa as eqa-lts
+use Rattle.programs.proofs.check_terms.term.Reads as term
+use Rattle.programs.proofs.check_terms.term.Kinds as term-kinds
+use Rattle.programs.proofs.check_terms.+consp+eqa+term.Lts-term as term-lts
+use Rattle.checker.proofs.check.first.Reads as first-reads
+use Rattle.checker.proofs.check.judge.Reads as judge-reads
+use Rattle.checker.proofs.check.negated.Reads as negated-reads
+use Rattle.programs.proofs.check_terms.put.Reads as put-reads
+use Rattle.checker.proofs.check_expressions.ea.Reads as ea-reads
+use Rattle.checker.proofs.check_expressions.exp.Reads as exp-reads
+use Rattle.checker.proofs.check_expressions.leaf.Reads as leaf-reads
+use Rattle.checker.proofs.check_expressions.pair.Reads as pair-reads
+use Rattle.programs.proofs.check_terms.call.Reads as call-reads
+use Rattle.checker.proofs.places.ahead.Reads as ahead-reads
+use Rattle.checker.proofs.places.key.Reads as key-reads
+use Rattle.checker.proofs.places.num.Reads as num-reads
+use Rattle.checker.proofs.places.offset.Reads as offset-reads
+use Rattle.programs.proofs.check_terms.+consp+eqa+term.{statement}
+use Rattle.programs.proofs.check_terms.+consp+eqa+term.Tie.{close}
+
+abbrev μ-consp : Measures 5 consp-kinds.ps ℕ
+μ-consp κs a = a .1 .1 .1 .1 .1 .1 .0 + a .1 .1 .1 .1 .1 .1 .0 + 1
+
+abbrev μ-eqa : Measures 5 eqa-kinds.ps ℕ
+μ-eqa κs a = a .1 .1 .1 .1 .1 .1 .0 + a .1 .1 .1 .1 .1 .1 .0 + 1
+
+abbrev μ-term : Measures 5 term-kinds.ps ℕ
+μ-term κs a = a .1 .1 .1 .1 .1 .1 .0 + a .1 .1 .1 .1 .1 .1 .0
+
+abbrev consp-at : ℕ → In 5 consp-kinds.ps
+consp-at t = and 5 consp-kinds.ps (is 5 consp-kinds.ps μ-consp t) consp.Pre
+
+abbrev consp-below : ℕ → In 5 consp-kinds.ps
+consp-below t = and 5 consp-kinds.ps (falls 5 consp-kinds.ps _<_ μ-consp t) consp.Pre
+
+abbrev eqa-at : ℕ → In 5 eqa-kinds.ps
+eqa-at t = and 5 eqa-kinds.ps (is 5 eqa-kinds.ps μ-eqa t) eqa.Pre
+
+abbrev eqa-below : ℕ → In 5 eqa-kinds.ps
+eqa-below t = and 5 eqa-kinds.ps (falls 5 eqa-kinds.ps _<_ μ-eqa t) eqa.Pre
+
+abbrev term-at : ℕ → In 5 term-kinds.ps
+term-at t = and 5 term-kinds.ps (is 5 term-kinds.ps μ-term t) term.Pre
+
+abbrev term-below : ℕ → In 5 term-kinds.ps
+term-below t = and 5 term-kinds.ps (falls 5 term-kinds.ps _<_ μ-term t) term.Pre
+
+consp-ahead-requires : (t : ℕ) → consp-lts.Need-ahead-requires (
+  ahead-reads.Asked,
+  ahead-reads.Learnt,
+  exp-reads.Asked,
+  exp-reads.Learnt,
+  put-reads.Asked,
+  put-reads.Learnt,
+  term-below t,
+  term.Post,
+  num-reads.Asked,
+  num-reads.Learnt,
+  negated-reads.Asked,
+  negated-reads.Learnt,
+  offset-reads.Asked,
+  offset-reads.Learnt,
+  judge-reads.Asked,
+  judge-reads.Learnt,
+  first-reads.Asked,
+  first-reads.Learnt,
+) (consp-at t) consp.Post
+consp-ahead-requires t c κs = search needs
+
+consp-exp-requires : (t : ℕ) → consp-lts.Need-exp-requires (
+  ahead-reads.Asked,
+  ahead-reads.Learnt,
+  exp-reads.Asked,
+  exp-reads.Learnt,
+  put-reads.Asked,
+  put-reads.Learnt,
+  term-below t,
+  term.Post,
+  num-reads.Asked,
+  num-reads.Learnt,
+  negated-reads.Asked,
+  negated-reads.Learnt,
+  offset-reads.Asked,
+  offset-reads.Learnt,
+  judge-reads.Asked,
+  judge-reads.Learnt,
+  first-reads.Asked,
+  first-reads.Learnt,
+) (consp-at t) consp.Post
+consp-exp-requires t c κs = search needs
+
+consp-ahead-requires-2 : (t : ℕ) → consp-lts.Need-ahead-requires-2 (
+  ahead-reads.Asked,
+  ahead-reads.Learnt,
+  exp-reads.Asked,
+  exp-reads.Learnt,
+  put-reads.Asked,
+  put-reads.Learnt,
+  term-below t,
+  term.Post,
+  num-reads.Asked,
+  num-reads.Learnt,
+  negated-reads.Asked,
+  negated-reads.Learnt,
+  offset-reads.Asked,
+  offset-reads.Learnt,
+  judge-reads.Asked,
+  judge-reads.Learnt,
+  first-reads.Asked,
+  first-reads.Learnt,
+) (consp-at t) consp.Post
+consp-ahead-requires-2 t c κs = search needs
+
+consp-ahead-requires-3 : (t : ℕ) → consp-lts.Need-ahead-requires-3 (
+  ahead-reads.Asked,
+  ahead-reads.Learnt,
+  exp-reads.Asked,
+  exp-reads.Learnt,
+  put-reads.Asked,
+  put-reads.Learnt,
+  term-below t,
+  term.Post,
+  num-reads.Asked,
+  num-reads.Learnt,
+  negated-reads.Asked,
+  negated-reads.Learnt,
+  offset-reads.Asked,
+  offset-reads.Learnt,
+  judge-reads.Asked,
+  judge-reads.Learnt,
+  first-reads.Asked,
+  first-reads.Learnt,
+) (consp-at t) consp.Post
+consp-ahead-requires-3 t c κs = search needs
+
+consp-put-requires : (t : ℕ) → consp-lts.Need-put-requires (
+  ahead-reads.Asked,
+  ahead-reads.Learnt,
+  exp-reads.Asked,
+  exp-reads.Learnt,
+  put-reads.Asked,
+  put-reads.Learnt,
+  term-below t,
+  term.Post,
+  num-reads.Asked,
+  num-reads.Learnt,
+  negated-reads.Asked,
+  negated-reads.Learnt,
+  offset-reads.Asked,
+  offset-reads.Learnt,
+  judge-reads.Asked,
+  judge-reads.Learnt,
+  first-reads.Asked,
+  first-reads.Learnt,
+) (consp-at t) consp.Post
+consp-put-requires t c κs = search needs
+
+consp-put-requires-2 : (t : ℕ) → consp-lts.Need-put-requires-2 (
+  ahead-reads.Asked,
+  ahead-reads.Learnt,
+  exp-reads.Asked,
+  exp-reads.Learnt,
+  put-reads.Asked,
+  put-reads.Learnt,
+  term-below t,
+  term.Post,
+  num-reads.Asked,
+  num-reads.Learnt,
+  negated-reads.Asked,
+  negated-reads.Learnt,
+  offset-reads.Asked,
+  offset-reads.Learnt,
+  judge-reads.Asked,
+  judge-reads.Learnt,
+  first-reads.Asked,
+  first-reads.Learnt,
+) (consp-at t) consp.Post
+consp-put-requires-2 t c κs = search needs
+
+consp-ahead-requires-4 : (t : ℕ) → consp-lts.Need-ahead-requires-4 (
+  ahead-reads.Asked,
+  ahead-reads.Learnt,
+  exp-reads.Asked,
+  exp-reads.Learnt,
+  put-reads.Asked,
+  put-reads.Learnt,
+  term-below t,
+  term.Post,
+  num-reads.Asked,
+  num-reads.Learnt,
+  negated-reads.Asked,
+  negated-reads.Learnt,
+  offset-reads.Asked,
+  offset-reads.Learnt,
+  judge-reads.Asked,
+  judge-reads.Learnt,
+  first-reads.Asked,
+  first-reads.Learnt,
+) (consp-at t) consp.Post
+consp-ahead-requires-4 t c κs = search needs
+
+consp-term-requires : (t : ℕ) → consp-lts.Need-term-requires (
+  ahead-reads.Asked,
+  ahead-reads.Learnt,
+  exp-reads.Asked,
+  exp-reads.Learnt,
+  put-reads.Asked,
+  put-reads.Learnt,
+  term-below t,
+  term.Post,
+  num-reads.Asked,
+  num-reads.Learnt,
+  negated-reads.Asked,
+  negated-reads.Learnt,
+  offset-reads.Asked,
+  offset-reads.Learnt,
+  judge-reads.Asked,
+  judge-reads.Learnt,
+  first-reads.Asked,
+  first-reads.Learnt,
+) (consp-at t) consp.Post
+consp-term-requires t c κs = search needs
+
+consp-put-requires-3 : (t : ℕ) → consp-lts.Need-put-requires-3 (
+  ahead-reads.Asked,
+  ahead-reads.Learnt,
+  exp-reads.Asked,
+  exp-reads.Learnt,
+  put-reads.Asked,
+  put-reads.Learnt,
+  term-below t,
+  term.Post,
+  num-reads.Asked,
+  num-reads.Learnt,
+  negated-reads.Asked,
+  negated-reads.Learnt,
+  offset-reads.Asked,
+  offset-reads.Learnt,
+  judge-reads.Asked,
+  judge-reads.Learnt,
+  first-reads.Asked,
+  first-reads.Learnt,
+) (consp-at t) consp.Post
+consp-put-requires-3 t c κs = search needs
+
+consp-term-requires-2 : (t : ℕ) → consp-lts.Need-term-requires-2 (
+  ahead-reads.Asked,
+  ahead-reads.Learnt,
+  exp-reads.Asked,
+  exp-reads.Learnt,
+  put-reads.Asked,
+  put-reads.Learnt,
+  term-below t,
+  term.Post,
+  num-reads.Asked,
+  num-reads.Learnt,
+  negated-reads.Asked,
+  negated-reads.Learnt,
+  offset-reads.Asked,
+  offset-reads.Learnt,
+  judge-reads.Asked,
+  judge-reads.Learnt,
+  first-reads.Asked,
+  first-reads.Learnt,
+) (consp-at t) consp.Post
+consp-term-requires-2 t c κs =
+    let e = c .before .before .before .before .before .before .before .before .before .before .before .before .before .before .before .before .before .before .before .before .pre .0 in
+    (omega (arith, e), search needs)
+
+consp-num-requires : (t : ℕ) → consp-lts.Need-num-requires (
+  ahead-reads.Asked,
+  ahead-reads.Learnt,
+  exp-reads.Asked,
+  exp-reads.Learnt,
+  put-reads.Asked,
+  put-reads.Learnt,
+  term-below t,
+  term.Post,
+  num-reads.Asked,
+  num-reads.Learnt,
+  negated-reads.Asked,
+  negated-reads.Learnt,
+  offset-reads.Asked,
+  offset-reads.Learnt,
+  judge-reads.Asked,
+  judge-reads.Learnt,
+  first-reads.Asked,
+  first-reads.Learnt,
+) (consp-at t) consp.Post
+consp-num-requires t c κs = search needs
+
+consp-num-requires-2 : (t : ℕ) → consp-lts.Need-num-requires-2 (
+  ahead-reads.Asked,
+  ahead-reads.Learnt,
+  exp-reads.Asked,
+  exp-reads.Learnt,
+  put-reads.Asked,
+  put-reads.Learnt,
+  term-below t,
+  term.Post,
+  num-reads.Asked,
+  num-reads.Learnt,
+  negated-reads.Asked,
+  negated-reads.Learnt,
+  offset-reads.Asked,
+  offset-reads.Learnt,
+  judge-reads.Asked,
+  judge-reads.Learnt,
+  first-reads.Asked,
+  first-reads.Learnt,
+) (consp-at t) consp.Post
+consp-num-requires-2 t c κs = search needs
+
+consp-negated-requires : (t : ℕ) → consp-lts.Need-negated-requires (
+  ahead-reads.Asked,
+  ahead-reads.Learnt,
+  exp-reads.Asked,
+  exp-reads.Learnt,
+  put-reads.Asked,
+  put-reads.Learnt,
+  term-below t,
+  term.Post,
+  num-reads.Asked,
+  num-reads.Learnt,
+  negated-reads.Asked,
+  negated-reads.Learnt,
+  offset-reads.Asked,
+  offset-reads.Learnt,
+  judge-reads.Asked,
+  judge-reads.Learnt,
+  first-reads.Asked,
+  first-reads.Learnt,
+) (consp-at t) consp.Post
+consp-negated-requires t c κs = search needs
+
+consp-offset-requires : (t : ℕ) → consp-lts.Need-offset-requires (
+  ahead-reads.Asked,
+  ahead-reads.Learnt,
+  exp-reads.Asked,
+  exp-reads.Learnt,
+  put-reads.Asked,
+  put-reads.Learnt,
+  term-below t,
+  term.Post,
+  num-reads.Asked,
+  num-reads.Learnt,
+  negated-reads.Asked,
+  negated-reads.Learnt,
+  offset-reads.Asked,
+  offset-reads.Learnt,
+  judge-reads.Asked,
+  judge-reads.Learnt,
+  first-reads.Asked,
+  first-reads.Learnt,
+) (consp-at t) consp.Post
+consp-offset-requires t c κs = search needs
+
+consp-judge-requires : (t : ℕ) → consp-lts.Need-judge-requires (
+  ahead-reads.Asked,
+  ahead-reads.Learnt,
+  exp-reads.Asked,
+  exp-reads.Learnt,
+  put-reads.Asked,
+  put-reads.Learnt,
+  term-below t,
+  term.Post,
+  num-reads.Asked,
+  num-reads.Learnt,
+  negated-reads.Asked,
+  negated-reads.Learnt,
+  offset-reads.Asked,
+  offset-reads.Learnt,
+  judge-reads.Asked,
+  judge-reads.Learnt,
+  first-reads.Asked,
+  first-reads.Learnt,
+) (consp-at t) consp.Post
+consp-judge-requires t c κs = search needs
+
+consp-ahead-requires-5 : (t : ℕ) → consp-lts.Need-ahead-requires-5 (
+  ahead-reads.Asked,
+  ahead-reads.Learnt,
+  exp-reads.Asked,
+  exp-reads.Learnt,
+  put-reads.Asked,
+  put-reads.Learnt,
+  term-below t,
+  term.Post,
+  num-reads.Asked,
+  num-reads.Learnt,
+  negated-reads.Asked,
+  negated-reads.Learnt,
+  offset-reads.Asked,
+  offset-reads.Learnt,
+  judge-reads.Asked,
+  judge-reads.Learnt,
+  first-reads.Asked,
+  first-reads.Learnt,
+) (consp-at t) consp.Post
+consp-ahead-requires-5 t c κs = search needs
+
+consp-first-requires : (t : ℕ) → consp-lts.Need-first-requires (
+  ahead-reads.Asked,
+  ahead-reads.Learnt,
+  exp-reads.Asked,
+  exp-reads.Learnt,
+  put-reads.Asked,
+  put-reads.Learnt,
+  term-below t,
+  term.Post,
+  num-reads.Asked,
+  num-reads.Learnt,
+  negated-reads.Asked,
+  negated-reads.Learnt,
+  offset-reads.Asked,
+  offset-reads.Learnt,
+  judge-reads.Asked,
+  judge-reads.Learnt,
+  first-reads.Asked,
+  first-reads.Learnt,
+) (consp-at t) consp.Post
+consp-first-requires t c κs = search needs
+
+consp-first-requires-2 : (t : ℕ) → consp-lts.Need-first-requires-2 (
+  ahead-reads.Asked,
+  ahead-reads.Learnt,
+  exp-reads.Asked,
+  exp-reads.Learnt,
+  put-reads.Asked,
+  put-reads.Learnt,
+  term-below t,
+  term.Post,
+  num-reads.Asked,
+  num-reads.Learnt,
+  negated-reads.Asked,
+  negated-reads.Learnt,
+  offset-reads.Asked,
+  offset-reads.Learnt,
+  judge-reads.Asked,
+  judge-reads.Learnt,
+  first-reads.Asked,
+  first-reads.Learnt,
+) (consp-at t) consp.Post
+consp-first-requires-2 t c κs = search needs
+
+consp-first-requires-3 : (t : ℕ) → consp-lts.Need-first-requires-3 (
+  ahead-reads.Asked,
+  ahead-reads.Learnt,
+  exp-reads.Asked,
+  exp-reads.Learnt,
+  put-reads.Asked,
+  put-reads.Learnt,
+  term-below t,
+  term.Post,
+  num-reads.Asked,
+  num-reads.Learnt,
+  negated-reads.Asked,
+  negated-reads.Learnt,
+  offset-reads.Asked,
+  offset-reads.Learnt,
+  judge-reads.Asked,
+  judge-reads.Learnt,
+  first-reads.Asked,
+  first-reads.Learnt,
+) (consp-at t) consp.Post
+consp-first-requires-3 t c κs = search needs
+
+consp-first-requires-4 : (t : ℕ) → consp-lts.Need-first-requires-4 (
+  ahead-reads.Asked,
+  ahead-reads.Learnt,
+  exp-reads.Asked,
+  exp-reads.Learnt,
+  put-reads.Asked,
+  put-reads.Learnt,
+  term-below t,
+  term.Post,
+  num-reads.Asked,
+  num-reads.Learnt,
+  negated-reads.Asked,
+  negated-reads.Learnt,
+  offset-reads.Asked,
+  offset-reads.Learnt,
+  judge-reads.Asked,
+  judge-reads.Learnt,
+  first-reads.Asked,
+  first-reads.Learnt,
+) (consp-at t) consp.Post
+consp-first-requires-4 t c κs = search needs
+
+consp-returns : (t : ℕ) → consp-lts.Need-returns (
+  ahead-reads.Asked,
+  ahead-reads.Learnt,
+  exp-reads.Asked,
+  exp-reads.Learnt,
+  put-reads.Asked,
+  put-reads.Learnt,
+  term-below t,
+  term.Post,
+  num-reads.Asked,
+  num-reads.Learnt,
+  negated-reads.Asked,
+  negated-reads.Learnt,
+  offset-reads.Asked,
+  offset-reads.Learnt,
+  judge-reads.Asked,
+  judge-reads.Learnt,
+  first-reads.Asked,
+  first-reads.Learnt,
+) (consp-at t) consp.Post
+consp-returns t c =
+    let one = c .before .before .before .before .before .before .before .before .before .before .before .before .before .before .before .before .before .before .before .put .ensures in
+    let two = c .before .before .before .before .before .before .before .before .before .before .before .before .before .before .before .before .before .put2 .ensures in
+    let other = c .before .before .before .before .before .before .before .before .before .before .before .before .put3 .ensures in
+    let more = put-more one in
+    let first = kept-on more (put-kept one) (put-kept two) in
+    let much = put-more two in
+    let k = kept-on (at-most more much) first (c .before .before .before .before .before .before .before .before .before .before .before .before .before .before .term .ensures .1) in
+    let found = consp-found _ _ _ _ _ _ _ _ _ (c .before .before .before .before .before .before .before .before .before .before .before .before .before .before .before .before .before .before .before .before .before .before .before .before .ahead .ensures) (c .before .before .before .before .before .before .before .before .before .before .before .before .before .before .before .before .before .before .before .before .before .before .before .exp .ensures) (c .before .before .before .before .before .before .before .before .before .before .before .before .before .before .before .before .before .before .before .before .before .before .ahead2 .ensures) (c .before .before .before .before .before .before .before .before .before .before .before .before .before .before .before .before .before .before .before .before .before .ahead3 .ensures) one two (c .before .before .before .before .before .before .before .before .before .before .before .before .before .before .before .before .ahead4 .ensures) (c .before .before .before .before .before .before .before .before .before .before .before .before .before .before .term .ensures .0) k other (c .before .before .before .before .before .before .before .before .before .before .term2 .ensures .0) in (
+      by-way found (rw (← (c .before .before .before .before .before .before .before .before .before .num .ensures), ← (c .before .before .before .before .before .before .before .before .num2 .ensures), ← (c .before .before .before .before .before .before .before .negated .ensures), ← (c .before .before .before .before .before .before .offset .ensures), ← (c .before .before .before .before .before .judge .ensures), ← (c .before .before .before .before .ahead5 .ensures), ← (c .before .before .before .first .ensures), ← (c .before .before .first2 .ensures), ← (c .before .first3 .ensures), ← (c .first4 .ensures))),
+      kept-on (put-more other) (kept-on (le-refl _) k (put-kept other)) (c .before .before .before .before .before .before .before .before .before .before .term2 .ensures .1),
+    )
+
+eqa-ahead-requires : (t : ℕ) → eqa-lts.Need-ahead-requires (
+  ahead-reads.Asked,
+  ahead-reads.Learnt,
+  ea-reads.Asked,
+  ea-reads.Learnt,
+  term-below t,
+  term.Post,
+  first-reads.Asked,
+  first-reads.Learnt,
+) (eqa-at t) eqa.Post
+eqa-ahead-requires t c κs = search needs
+
+eqa-ea-requires : (t : ℕ) → eqa-lts.Need-ea-requires (
+  ahead-reads.Asked,
+  ahead-reads.Learnt,
+  ea-reads.Asked,
+  ea-reads.Learnt,
+  term-below t,
+  term.Post,
+  first-reads.Asked,
+  first-reads.Learnt,
+) (eqa-at t) eqa.Post
+eqa-ea-requires t c κs = search needs
+
+eqa-ea-requires-2 : (t : ℕ) → eqa-lts.Need-ea-requires-2 (
+  ahead-reads.Asked,
+  ahead-reads.Learnt,
+  ea-reads.Asked,
+  ea-reads.Learnt,
+  term-below t,
+  term.Post,
+  first-reads.Asked,
+  first-reads.Learnt,
+) (eqa-at t) eqa.Post
+eqa-ea-requires-2 t c κs = search needs
+
+eqa-ahead-requires-2 : (t : ℕ) → eqa-lts.Need-ahead-requires-2 (
+  ahead-reads.Asked,
+  ahead-reads.Learnt,
+  ea-reads.Asked,
+  ea-reads.Learnt,
+  term-below t,
+  term.Post,
+  first-reads.Asked,
+  first-reads.Learnt,
+) (eqa-at t) eqa.Post
+eqa-ahead-requires-2 t c κs = search needs
+
+eqa-term-requires : (t : ℕ) → eqa-lts.Need-term-requires (
+  ahead-reads.Asked,
+  ahead-reads.Learnt,
+  ea-reads.Asked,
+  ea-reads.Learnt,
+  term-below t,
+  term.Post,
+  first-reads.Asked,
+  first-reads.Learnt,
+) (eqa-at t) eqa.Post
+eqa-term-requires t c κs = search needs
+
+eqa-term-requires-2 : (t : ℕ) → eqa-lts.Need-term-requires-2 (
+  ahead-reads.Asked,
+  ahead-reads.Learnt,
+  ea-reads.Asked,
+  ea-reads.Learnt,
+  term-below t,
+  term.Post,
+  first-reads.Asked,
+  first-reads.Learnt,
+) (eqa-at t) eqa.Post
+eqa-term-requires-2 t c κs =
+    let e = c .before .before .before .before .before .before .before .before .before .before .before .before .before .before .before .pre .0 in
+    (omega (arith, e), search needs)
+
+eqa-ahead-requires-3 : (t : ℕ) → eqa-lts.Need-ahead-requires-3 (
+  ahead-reads.Asked,
+  ahead-reads.Learnt,
+  ea-reads.Asked,
+  ea-reads.Learnt,
+  term-below t,
+  term.Post,
+  first-reads.Asked,
+  first-reads.Learnt,
+) (eqa-at t) eqa.Post
+eqa-ahead-requires-3 t c κs = search needs
+
+eqa-first-requires : (t : ℕ) → eqa-lts.Need-first-requires (
+  ahead-reads.Asked,
+  ahead-reads.Learnt,
+  ea-reads.Asked,
+  ea-reads.Learnt,
+  term-below t,
+  term.Post,
+  first-reads.Asked,
+  first-reads.Learnt,
+) (eqa-at t) eqa.Post
+eqa-first-requires t c κs = search needs
+
+eqa-first-requires-2 : (t : ℕ) → eqa-lts.Need-first-requires-2 (
+  ahead-reads.Asked,
+  ahead-reads.Learnt,
+  ea-reads.Asked,
+  ea-reads.Learnt,
+  term-below t,
+  term.Post,
+  first-reads.Asked,
+  first-reads.Learnt,
+) (eqa-at t) eqa.Post
+eqa-first-requires-2 t c κs = search needs
+
+eqa-first-requires-3 : (t : ℕ) → eqa-lts.Need-first-requires-3 (
+  ahead-reads.Asked,
+  ahead-reads.Learnt,
+  ea-reads.Asked,
+  ea-reads.Learnt,
+  term-below t,
+  term.Post,
+  first-reads.Asked,
+  first-reads.Learnt,
+) (eqa-at t) eqa.Post
+eqa-first-requires-3 t c κs = search needs
+
+eqa-first-requires-4 : (t : ℕ) → eqa-lts.Need-first-requires-4 (
+  ahead-reads.Asked,
+  ahead-reads.Learnt,
+  ea-reads.Asked,
+  ea-reads.Learnt,
+  term-below t,
+  term.Post,
+  first-reads.Asked,
+  first-reads.Learnt,
+) (eqa-at t) eqa.Post
+eqa-first-requires-4 t c κs = search needs
+
+eqa-returns : (t : ℕ) → eqa-lts.Need-returns (
+  ahead-reads.Asked,
+  ahead-reads.Learnt,
+  ea-reads.Asked,
+  ea-reads.Learnt,
+  term-below t,
+  term.Post,
+  first-reads.Asked,
+  first-reads.Learnt,
+) (eqa-at t) eqa.Post
+eqa-returns t c =
+    let k = c .before .before .before .before .before .before .before .term .ensures .1 in (
+      rw (← (c .before .before .before .before .before .before .before .before .before .before .before .before .before .before .ahead .ensures), ← (c .before .before .before .before .before .before .before .before .before .before .before .before .before .ea .ensures), ← (c .before .before .before .before .before .before .before .before .before .before .ea2 .ensures), ← (c .before .before .before .before .before .before .before .before .ahead2 .ensures), ← (c .before .before .before .before .before .before .before .term .ensures .0), ← (term-kept _ _ _ _ _ _ _ _ _ k), ← (c .before .before .before .before .before .term2 .ensures .0), ← (c .before .before .before .before .ahead3 .ensures), ← (c .before .before .before .first .ensures), ← (c .before .before .first2 .ensures), ← (c .before .first3 .ensures), ← (c .first4 .ensures)),
+      kept-on (le-refl _) k (c .before .before .before .before .before .term2 .ensures .1),
+    )
+
+term-leaf-requires : (t : ℕ) → term-lts.Need-leaf-requires (
+  leaf-reads.Asked,
+  leaf-reads.Learnt,
+  key-reads.Asked,
+  key-reads.Learnt,
+  ahead-reads.Asked,
+  ahead-reads.Learnt,
+  call-reads.Asked,
+  call-reads.Learnt,
+  eqa-below t,
+  eqa.Post,
+  consp-below t,
+  consp.Post,
+  pair-reads.Asked,
+  pair-reads.Learnt,
+) (term-at t) term.Post
+term-leaf-requires t c κs = search needs
+
+term-returns : (t : ℕ) → term-lts.Need-returns (
+  leaf-reads.Asked,
+  leaf-reads.Learnt,
+  key-reads.Asked,
+  key-reads.Learnt,
+  ahead-reads.Asked,
+  ahead-reads.Learnt,
+  call-reads.Asked,
+  call-reads.Learnt,
+  eqa-below t,
+  eqa.Post,
+  consp-below t,
+  consp.Post,
+  pair-reads.Asked,
+  pair-reads.Learnt,
+) (term-at t) term.Post
+term-returns t c =
+    (rw (term-none (c .before .before .before .if1 .taken), ← (c .leaf .ensures)), kept-all _ _)
+
+term-key-requires : (t : ℕ) → term-lts.Need-key-requires (
+  leaf-reads.Asked,
+  leaf-reads.Learnt,
+  key-reads.Asked,
+  key-reads.Learnt,
+  ahead-reads.Asked,
+  ahead-reads.Learnt,
+  call-reads.Asked,
+  call-reads.Learnt,
+  eqa-below t,
+  eqa.Post,
+  consp-below t,
+  consp.Post,
+  pair-reads.Asked,
+  pair-reads.Learnt,
+) (term-at t) term.Post
+term-key-requires t c κs = search needs
+
+term-ahead-requires : (t : ℕ) → term-lts.Need-ahead-requires (
+  leaf-reads.Asked,
+  leaf-reads.Learnt,
+  key-reads.Asked,
+  key-reads.Learnt,
+  ahead-reads.Asked,
+  ahead-reads.Learnt,
+  call-reads.Asked,
+  call-reads.Learnt,
+  eqa-below t,
+  eqa.Post,
+  consp-below t,
+  consp.Post,
+  pair-reads.Asked,
+  pair-reads.Learnt,
+) (term-at t) term.Post
+term-ahead-requires t c κs = search needs
+
+term-key-requires-2 : (t : ℕ) → term-lts.Need-key-requires-2 (
+  leaf-reads.Asked,
+  leaf-reads.Learnt,
+  key-reads.Asked,
+  key-reads.Learnt,
+  ahead-reads.Asked,
+  ahead-reads.Learnt,
+  call-reads.Asked,
+  call-reads.Learnt,
+  eqa-below t,
+  eqa.Post,
+  consp-below t,
+  consp.Post,
+  pair-reads.Asked,
+  pair-reads.Learnt,
+) (term-at t) term.Post
+term-key-requires-2 t c κs = search needs
+
+term-sub-call : (t : ℕ) → term-lts.Need-sub-call (
+  leaf-reads.Asked,
+  leaf-reads.Learnt,
+  key-reads.Asked,
+  key-reads.Learnt,
+  ahead-reads.Asked,
+  ahead-reads.Learnt,
+  call-reads.Asked,
+  call-reads.Learnt,
+  eqa-below t,
+  eqa.Post,
+  consp-below t,
+  consp.Post,
+  pair-reads.Asked,
+  pair-reads.Learnt,
+) (term-at t) term.Post
+term-sub-call t c = search needs
+
+term-call-requires : (t : ℕ) → term-lts.Need-call-requires (
+  leaf-reads.Asked,
+  leaf-reads.Learnt,
+  key-reads.Asked,
+  key-reads.Learnt,
+  ahead-reads.Asked,
+  ahead-reads.Learnt,
+  call-reads.Asked,
+  call-reads.Learnt,
+  eqa-below t,
+  eqa.Post,
+  consp-below t,
+  consp.Post,
+  pair-reads.Asked,
+  pair-reads.Learnt,
+) (term-at t) term.Post
+term-call-requires t c κs = search needs
+
+term-returns-2 : (t : ℕ) → term-lts.Need-returns-2 (
+  leaf-reads.Asked,
+  leaf-reads.Learnt,
+  key-reads.Asked,
+  key-reads.Learnt,
+  ahead-reads.Asked,
+  ahead-reads.Learnt,
+  call-reads.Asked,
+  call-reads.Learnt,
+  eqa-below t,
+  eqa.Post,
+  consp-below t,
+  consp.Post,
+  pair-reads.Asked,
+  pair-reads.Learnt,
+) (term-at t) term.Post
+term-returns-2 t c =
+    (rw (term-more (c .before .before .before .before .before .before .before .before .if1 .left), ← (c .before .before .before .before .before .before .before .key .ensures), eq-eqb _ _ (c .before .before .before .before .before .before .if2 .taken), ← (c .before .before .before .before .before .ahead .ensures), ← (c .before .before .before .before .key2 .ensures), eq-eqb _ _ (c .before .before .before .if3 .taken), ← (c .call .ensures)), kept-all _ _)
+
+term-ahead-requires-2 : (t : ℕ) → term-lts.Need-ahead-requires-2 (
+  leaf-reads.Asked,
+  leaf-reads.Learnt,
+  key-reads.Asked,
+  key-reads.Learnt,
+  ahead-reads.Asked,
+  ahead-reads.Learnt,
+  call-reads.Asked,
+  call-reads.Learnt,
+  eqa-below t,
+  eqa.Post,
+  consp-below t,
+  consp.Post,
+  pair-reads.Asked,
+  pair-reads.Learnt,
+) (term-at t) term.Post
+term-ahead-requires-2 t c κs = search needs
+
+term-key-requires-3 : (t : ℕ) → term-lts.Need-key-requires-3 (
+  leaf-reads.Asked,
+  leaf-reads.Learnt,
+  key-reads.Asked,
+  key-reads.Learnt,
+  ahead-reads.Asked,
+  ahead-reads.Learnt,
+  call-reads.Asked,
+  call-reads.Learnt,
+  eqa-below t,
+  eqa.Post,
+  consp-below t,
+  consp.Post,
+  pair-reads.Asked,
+  pair-reads.Learnt,
+) (term-at t) term.Post
+term-key-requires-3 t c κs = search needs
+
+term-sub-eqa : (t : ℕ) → term-lts.Need-sub-eqa (
+  leaf-reads.Asked,
+  leaf-reads.Learnt,
+  key-reads.Asked,
+  key-reads.Learnt,
+  ahead-reads.Asked,
+  ahead-reads.Learnt,
+  call-reads.Asked,
+  call-reads.Learnt,
+  eqa-below t,
+  eqa.Post,
+  consp-below t,
+  consp.Post,
+  pair-reads.Asked,
+  pair-reads.Learnt,
+) (term-at t) term.Post
+term-sub-eqa t c = search needs
+
+term-eqa-requires : (t : ℕ) → term-lts.Need-eqa-requires (
+  leaf-reads.Asked,
+  leaf-reads.Learnt,
+  key-reads.Asked,
+  key-reads.Learnt,
+  ahead-reads.Asked,
+  ahead-reads.Learnt,
+  call-reads.Asked,
+  call-reads.Learnt,
+  eqa-below t,
+  eqa.Post,
+  consp-below t,
+  consp.Post,
+  pair-reads.Asked,
+  pair-reads.Learnt,
+) (term-at t) term.Post
+term-eqa-requires t c κs = search needs
+
+term-returns-3 : (t : ℕ) → term-lts.Need-returns-3 (
+  leaf-reads.Asked,
+  leaf-reads.Learnt,
+  key-reads.Asked,
+  key-reads.Learnt,
+  ahead-reads.Asked,
+  ahead-reads.Learnt,
+  call-reads.Asked,
+  call-reads.Learnt,
+  eqa-below t,
+  eqa.Post,
+  consp-below t,
+  consp.Post,
+  pair-reads.Asked,
+  pair-reads.Learnt,
+) (term-at t) term.Post
+term-returns-3 t c =
+    (rw (term-more (c .before .before .before .before .before .before .before .before .before .before .before .if1 .left), ← (c .before .before .before .before .before .before .before .before .before .before .key .ensures), eq-eqb _ _ (c .before .before .before .before .before .before .before .before .before .if2 .taken), ← (c .before .before .before .before .before .before .before .before .ahead .ensures), ← (c .before .before .before .before .before .before .before .key2 .ensures), ne-eqb _ _ (c .before .before .before .before .before .before .if3 .left), eq-eqb _ _ (c .before .before .before .before .before .if4 .taken), ← (c .before .before .before .before .ahead2 .ensures), ← (c .before .before .before .key3 .ensures), eq-eqb _ _ (c .before .before .if5 .taken), ← (c .eqa .ensures .0)), c .eqa .ensures .1)
+
+term-sub-consp : (t : ℕ) → term-lts.Need-sub-consp (
+  leaf-reads.Asked,
+  leaf-reads.Learnt,
+  key-reads.Asked,
+  key-reads.Learnt,
+  ahead-reads.Asked,
+  ahead-reads.Learnt,
+  call-reads.Asked,
+  call-reads.Learnt,
+  eqa-below t,
+  eqa.Post,
+  consp-below t,
+  consp.Post,
+  pair-reads.Asked,
+  pair-reads.Learnt,
+) (term-at t) term.Post
+term-sub-consp t c = search needs
+
+term-consp-requires : (t : ℕ) → term-lts.Need-consp-requires (
+  leaf-reads.Asked,
+  leaf-reads.Learnt,
+  key-reads.Asked,
+  key-reads.Learnt,
+  ahead-reads.Asked,
+  ahead-reads.Learnt,
+  call-reads.Asked,
+  call-reads.Learnt,
+  eqa-below t,
+  eqa.Post,
+  consp-below t,
+  consp.Post,
+  pair-reads.Asked,
+  pair-reads.Learnt,
+) (term-at t) term.Post
+term-consp-requires t c κs = search needs
+
+term-returns-4 : (t : ℕ) → term-lts.Need-returns-4 (
+  leaf-reads.Asked,
+  leaf-reads.Learnt,
+  key-reads.Asked,
+  key-reads.Learnt,
+  ahead-reads.Asked,
+  ahead-reads.Learnt,
+  call-reads.Asked,
+  call-reads.Learnt,
+  eqa-below t,
+  eqa.Post,
+  consp-below t,
+  consp.Post,
+  pair-reads.Asked,
+  pair-reads.Learnt,
+) (term-at t) term.Post
+term-returns-4 t c =
+    (rw (term-more (c .before .before .before .before .before .before .before .before .before .before .before .if1 .left), ← (c .before .before .before .before .before .before .before .before .before .before .key .ensures), eq-eqb _ _ (c .before .before .before .before .before .before .before .before .before .if2 .taken), ← (c .before .before .before .before .before .before .before .before .ahead .ensures), ← (c .before .before .before .before .before .before .before .key2 .ensures), ne-eqb _ _ (c .before .before .before .before .before .before .if3 .left), eq-eqb _ _ (c .before .before .before .before .before .if4 .taken), ← (c .before .before .before .before .ahead2 .ensures), ← (c .before .before .before .key3 .ensures), ne-eqb _ _ (c .before .before .if5 .left), ← (c .consp .ensures .0)), c .consp .ensures .1)
+
+term-sub-pair : (t : ℕ) → term-lts.Need-sub-pair (
+  leaf-reads.Asked,
+  leaf-reads.Learnt,
+  key-reads.Asked,
+  key-reads.Learnt,
+  ahead-reads.Asked,
+  ahead-reads.Learnt,
+  call-reads.Asked,
+  call-reads.Learnt,
+  eqa-below t,
+  eqa.Post,
+  consp-below t,
+  consp.Post,
+  pair-reads.Asked,
+  pair-reads.Learnt,
+) (term-at t) term.Post
+term-sub-pair t c = search needs
+
+term-pair-requires : (t : ℕ) → term-lts.Need-pair-requires (
+  leaf-reads.Asked,
+  leaf-reads.Learnt,
+  key-reads.Asked,
+  key-reads.Learnt,
+  ahead-reads.Asked,
+  ahead-reads.Learnt,
+  call-reads.Asked,
+  call-reads.Learnt,
+  eqa-below t,
+  eqa.Post,
+  consp-below t,
+  consp.Post,
+  pair-reads.Asked,
+  pair-reads.Learnt,
+) (term-at t) term.Post
+term-pair-requires t c κs = search needs
+
+term-returns-5 : (t : ℕ) → term-lts.Need-returns-5 (
+  leaf-reads.Asked,
+  leaf-reads.Learnt,
+  key-reads.Asked,
+  key-reads.Learnt,
+  ahead-reads.Asked,
+  ahead-reads.Learnt,
+  call-reads.Asked,
+  call-reads.Learnt,
+  eqa-below t,
+  eqa.Post,
+  consp-below t,
+  consp.Post,
+  pair-reads.Asked,
+  pair-reads.Learnt,
+) (term-at t) term.Post
+term-returns-5 t c =
+    (rw (term-more (c .before .before .before .before .before .before .before .before .before .if1 .left), ← (c .before .before .before .before .before .before .before .before .key .ensures), eq-eqb _ _ (c .before .before .before .before .before .before .before .if2 .taken), ← (c .before .before .before .before .before .before .ahead .ensures), ← (c .before .before .before .before .before .key2 .ensures), ne-eqb _ _ (c .before .before .before .before .if3 .left), ne-eqb _ _ (c .before .before .before .if4 .left), ← (c .pair .ensures)), kept-all _ _)
+
+term-leaf-requires-2 : (t : ℕ) → term-lts.Need-leaf-requires-2 (
+  leaf-reads.Asked,
+  leaf-reads.Learnt,
+  key-reads.Asked,
+  key-reads.Learnt,
+  ahead-reads.Asked,
+  ahead-reads.Learnt,
+  call-reads.Asked,
+  call-reads.Learnt,
+  eqa-below t,
+  eqa.Post,
+  consp-below t,
+  consp.Post,
+  pair-reads.Asked,
+  pair-reads.Learnt,
+) (term-at t) term.Post
+term-leaf-requires-2 t c κs = search needs
+
+term-returns-6 : (t : ℕ) → term-lts.Need-returns-6 (
+  leaf-reads.Asked,
+  leaf-reads.Learnt,
+  key-reads.Asked,
+  key-reads.Learnt,
+  ahead-reads.Asked,
+  ahead-reads.Learnt,
+  call-reads.Asked,
+  call-reads.Learnt,
+  eqa-below t,
+  eqa.Post,
+  consp-below t,
+  consp.Post,
+  pair-reads.Asked,
+  pair-reads.Learnt,
+) (term-at t) term.Post
+term-returns-6 t c =
+    (rw (term-more (c .before .before .before .before .before .if1 .left), ← (c .before .before .before .before .key .ensures), ne-eqb _ _ (c .before .before .before .if2 .left), ← (c .leaf2 .ensures)), kept-all _ _)
+
+pub +consp+eqa+term-spec : {M : Type 1} → statement M
++consp+eqa+term-spec = close μ-consp μ-eqa μ-term (λ t. consp-lts.spec (
+  ahead-reads.Asked,
+  ahead-reads.Learnt,
+  exp-reads.Asked,
+  exp-reads.Learnt,
+  put-reads.Asked,
+  put-reads.Learnt,
+  term-below t,
+  term.Post,
+  num-reads.Asked,
+  num-reads.Learnt,
+  negated-reads.Asked,
+  negated-reads.Learnt,
+  offset-reads.Asked,
+  offset-reads.Learnt,
+  judge-reads.Asked,
+  judge-reads.Learnt,
+  first-reads.Asked,
+  first-reads.Learnt,
+)
+    (consp-at t)
+    consp.Post
+    (consp-ahead-requires t)
+    (consp-exp-requires t)
+    (consp-ahead-requires-2 t)
+    (consp-ahead-requires-3 t)
+    (consp-put-requires t)
+    (consp-put-requires-2 t)
+    (consp-ahead-requires-4 t)
+    (consp-term-requires t)
+    (consp-put-requires-3 t)
+    (consp-term-requires-2 t)
+    (consp-num-requires t)
+    (consp-num-requires-2 t)
+    (consp-negated-requires t)
+    (consp-offset-requires t)
+    (consp-judge-requires t)
+    (consp-ahead-requires-5 t)
+    (consp-first-requires t)
+    (consp-first-requires-2 t)
+    (consp-first-requires-3 t)
+    (consp-first-requires-4 t)
+    (consp-returns t))
+    (λ t. eqa-lts.spec (
+      ahead-reads.Asked,
+      ahead-reads.Learnt,
+      ea-reads.Asked,
+      ea-reads.Learnt,
+      term-below t,
+      term.Post,
+      first-reads.Asked,
+      first-reads.Learnt,
+    )
+    (eqa-at t)
+    eqa.Post
+    (eqa-ahead-requires t)
+    (eqa-ea-requires t)
+    (eqa-ea-requires-2 t)
+    (eqa-ahead-requires-2 t)
+    (eqa-term-requires t)
+    (eqa-term-requires-2 t)
+    (eqa-ahead-requires-3 t)
+    (eqa-first-requires t)
+    (eqa-first-requires-2 t)
+    (eqa-first-requires-3 t)
+    (eqa-first-requires-4 t)
+    (eqa-returns t))
+    λ t. term-lts.spec (
+      leaf-reads.Asked,
+      leaf-reads.Learnt,
+      key-reads.Asked,
+      key-reads.Learnt,
+      ahead-reads.Asked,
+      ahead-reads.Learnt,
+      call-reads.Asked,
+      call-reads.Learnt,
+      eqa-below t,
+      eqa.Post,
+      consp-below t,
+      consp.Post,
+      pair-reads.Asked,
+      pair-reads.Learnt,
+    )
+    (term-at t)
+    term.Post
+    (term-leaf-requires t)
+    (term-returns t)
+    (term-key-requires t)
+    (term-ahead-requires t)
+    (term-key-requires-2 t)
+    (term-sub-call t)
+    (term-call-requires t)
+    (term-returns-2 t)
+    (term-ahead-requires-2 t)
+    (term-key-requires-3 t)
+    (term-sub-eqa t)
+    (term-eqa-requires t)
+    (term-returns-3 t)
+    (term-sub-consp t)
+    (term-consp-requires t)
+    (term-returns-4 t)
+    (term-sub-pair t)
+    (term-pair-requires t)
+    (term-returns-5 t)
+    (term-leaf-requires-2 t)
+    (term-returns-6 t)

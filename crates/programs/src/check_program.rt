@@ -1,0 +1,258 @@
+// The check of a program by its tokens: "Program: 6; then 7, 8, 9 at the earliest token" (01, "From the input"). The tokens, n of them,
+// were read without refusal.
+use crate::check_terms::find;
+use crate::check_terms::put;
+use crate::check_terms::term;
+use checker::check::Defs;
+use checker::check::Names;
+use checker::check::Verdict;
+use checker::check::Walked;
+use checker::check::first;
+use checker::check::index;
+use checker::check::judge;
+use checker::check_expressions::is_named;
+use checker::places::ahead;
+use checker::places::key;
+use checker::places::num;
+use checker::places::offset;
+use lexer::keys::CLOSE_LIST;
+use lexer::keys::END;
+ghost use mathlib.Core.Path.{_≡_};
+ghost use Rattle.checker.specs.CheckAt.{added, noDefs, noNames};
+ghost use Rattle.checker.specs.CheckStored.{paramsAt, paramsEnd, paramsTwice, headTwice, walkedBody, defAt, defsAt, bodyAt, bodiesAt, programAt};
+
+// The names of the parameters from `i` on.
+fn params(marks: &[u16], n: usize, room: usize, i: usize) -> Names
+    ensures { λ r. ⌜ r ≡ paramsAt (now (marks .entry)) (now (marks .entry)) (now (marks .entry)) n room noNames i ⌝ }
+{
+    let mut cells = [0usize; 144];
+    let mut used: usize = 0;
+    let mut left = room;
+    let mut at = i;
+    while 0 < left {
+        if key(marks, n, at) == CLOSE_LIST {
+            return Names { cells, used };
+        }
+        used = put(&mut cells, used, at);
+        at = ahead(n, 1, at);
+        left -= 1;
+    }
+    Names { cells, used }
+}
+
+// The index of the bracket that closes them.
+fn params_end(marks: &[u16], n: usize, room: usize, i: usize) -> usize
+    ensures { λ r. ⌜ r ≡ paramsEnd (now (marks .entry)) (now (marks .entry)) (now (marks .entry)) n room i ⌝ }
+{
+    let mut left = room;
+    let mut at = i;
+    while 0 < left {
+        if key(marks, n, at) == CLOSE_LIST {
+            return at;
+        }
+        at = ahead(n, 1, at);
+        left -= 1;
+    }
+    at
+}
+
+// "6 ... a parameter defined twice".
+fn params_twice(
+    marks: &[u16],
+    nums: &[u16],
+    ats: &[u16],
+    n: usize,
+    room: usize,
+    i: usize,
+) -> Verdict
+    ensures { λ r. ⌜ r ≡ paramsTwice (now (marks .entry)) (now (nums .entry)) (now (ats .entry)) n room noNames i ⌝ }
+{
+    let mut cells = [0usize; 144];
+    let mut used: usize = 0;
+    let mut left = room;
+    let mut at = i;
+    while 0 < left {
+        if key(marks, n, at) == CLOSE_LIST {
+            return Verdict::Fine;
+        }
+        if is_named(marks, nums, n, &cells, used, at) {
+            return Verdict::Fault {
+                number: 6,
+                offset: offset(ats, n, at),
+            };
+        }
+        used = put(&mut cells, used, at);
+        at = ahead(n, 1, at);
+        left -= 1;
+    }
+    Verdict::Fine
+}
+
+// One definition more, whose name stands at `h` and which ends before `k`.
+fn add(ds: Defs, h: usize, k: usize, v: Verdict) -> Defs
+    ensures { λ r. ⌜ r ≡ added ds h k v ⌝ }
+{
+    let count = ds.count;
+    if count < 64 {
+        let before = ds.names;
+        let mut heads = ds.heads;
+        heads[count] = h;
+        return Defs {
+            heads: heads,
+            count: count + 1,
+            past: k,
+            names: first(before, v),
+        };
+    }
+    ds
+}
+
+// Whether the function whose name stands at `h` is defined before.
+fn head_twice(
+    nums: &[u16],
+    ats: &[u16],
+    n: usize,
+    heads: &[usize],
+    count: usize,
+    h: usize,
+) -> Verdict
+    ensures { λ r. ⌜ r ≡ headTwice (now (nums .entry)) (now (nums .entry)) (now (ats .entry)) n (now (heads .entry)) count h ⌝ }
+{
+    let g = find(nums, n, heads, count, num(nums, n, h));
+    judge(count <= g, 6, offset(ats, n, h))
+}
+
+// The body of the definition that starts at `i`, for 6.
+fn walked_body(
+    marks: &[u16],
+    nums: &[u16],
+    ats: &[u16],
+    n: usize,
+    heads: &[usize],
+    i: usize,
+) -> Walked
+    ensures { λ r. ⌜ r ≡ walkedBody (now (marks .entry)) (now (nums .entry)) (now (ats .entry)) n (now (heads .entry)) i ⌝ }
+{
+    let start = ahead(n, 1, params_end(marks, n, 16, ahead(n, 4, i)));
+    let mut cells = [0usize; 144];
+    term(marks, nums, ats, n, heads, 0, 63, &mut cells, 0, start)
+}
+
+// One definition more: "6 a function or a parameter defined twice; equal names in one `cons?`".
+fn def(marks: &[u16], nums: &[u16], ats: &[u16], n: usize, ds: Defs) -> Defs
+    ensures { λ r. ⌜ r ≡ defAt (now (marks .entry)) (now (nums .entry)) (now (ats .entry)) n ds ⌝ }
+{
+    let count = ds.count;
+    let i = ds.past;
+    let h = ahead(n, 2, i);
+    let t = walked_body(marks, nums, ats, n, &ds.heads, i);
+    let end = t.past;
+    let within = t.names;
+    let new = head_twice(nums, ats, n, &ds.heads, count, h);
+    let twice = params_twice(marks, nums, ats, n, 16, ahead(n, 4, i));
+    add(ds, h, ahead(n, 1, end), first(new, first(twice, within)))
+}
+
+// Definitions up to the end.
+fn defs(marks: &[u16], nums: &[u16], ats: &[u16], n: usize, left: usize, ds: Defs) -> Defs
+    ensures { λ r. ⌜ r ≡ defsAt (now (marks .entry)) (now (nums .entry)) (now (ats .entry)) n left ds ⌝ }
+{
+    let mut all = ds;
+    let mut more = left;
+    while 0 < more {
+        let i = all.past;
+        if key(marks, n, i) == END {
+            return all;
+        }
+        all = def(marks, nums, ats, n, all);
+        more -= 1;
+    }
+    all
+}
+
+fn no_defs() -> Defs
+    ensures { λ r. ⌜ r ≡ noDefs ⌝ }
+{
+    Defs {
+        heads: [0usize; 64],
+        count: 0,
+        past: 0,
+        names: Verdict::Fine,
+    }
+}
+
+// The definitions of a program, each by the index of its name, and the first fault of 6.
+pub fn definitions(marks: &[u16], nums: &[u16], ats: &[u16], n: usize) -> Defs
+    ensures { λ r. ⌜ r ≡ defsAt (now (marks .entry)) (now (nums .entry)) (now (ats .entry)) n 64 noDefs ⌝ }
+{
+    defs(marks, nums, ats, n, 64, no_defs())
+}
+
+// 7, 8, 9 in the body of the definition whose name stands at `h`.
+fn body(
+    marks: &[u16],
+    nums: &[u16],
+    ats: &[u16],
+    n: usize,
+    heads: &[usize],
+    count: usize,
+    h: usize,
+) -> Verdict
+    ensures { λ r. ⌜ r ≡ bodyAt (now (marks .entry)) (now (nums .entry)) (now (ats .entry)) n (now (heads .entry)) count h ⌝ }
+{
+    let p = ahead(n, 2, h);
+    let start = ahead(n, 1, params_end(marks, n, 16, p));
+    let sc = params(marks, n, 16, p);
+    let mut cells = sc.cells;
+    let used = sc.used;
+    let t = term(
+        marks,
+        nums,
+        ats,
+        n,
+        heads,
+        count,
+        63,
+        &mut cells,
+        used,
+        start,
+    );
+    t.uses
+}
+
+// And in those of all definitions: a body is looked at only where those before it are fine.
+fn bodies(
+    marks: &[u16],
+    nums: &[u16],
+    ats: &[u16],
+    n: usize,
+    heads: &[usize],
+    count: usize,
+) -> Verdict
+    ensures { λ r. ⌜ r ≡ bodiesAt (now (marks .entry)) (now (nums .entry)) (now (ats .entry)) n (now (heads .entry)) count count 0 ⌝ }
+{
+    let mut j: usize = 0;
+    while j < count {
+        let v = body(marks, nums, ats, n, heads, count, index(heads, j));
+        match v {
+            Verdict::Fine => {
+                j += 1;
+                continue;
+            }
+            Verdict::Fault { number, offset } => {
+                return Verdict::Fault { number, offset };
+            }
+        }
+    }
+    Verdict::Fine
+}
+
+// The first fault of a program.
+pub fn check_program(marks: &[u16], nums: &[u16], ats: &[u16], n: usize) -> Verdict
+    ensures { λ r. ⌜ r ≡ programAt (now (marks .entry)) (now (nums .entry)) (now (ats .entry)) n ⌝ }
+{
+    let ds = definitions(marks, nums, ats, n);
+    let count = ds.count;
+    let names = ds.names;
+    first(names, bodies(marks, nums, ats, n, &ds.heads, count))
+}

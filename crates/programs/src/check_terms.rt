@@ -1,0 +1,224 @@
+// The check of terms by their tokens: 6 in `cons?`, 7, 8, 9 (01, "From the input"). `heads`, `count` of them, are the definitions, each by
+// the index of its name; `cells`, `used` of them, are the names in reach. A branch writes its own behind these, and keeps these.
+use checker::check::Verdict;
+use checker::check::Walked;
+use checker::check::both;
+use checker::check::called;
+use checker::check::first;
+use checker::check::index;
+use checker::check::judge;
+use checker::check::negated;
+use checker::check_expressions::args;
+use checker::check_expressions::ea;
+use checker::check_expressions::exp;
+use checker::check_expressions::leaf;
+use checker::check_expressions::pair;
+use checker::places::ahead;
+use checker::places::key;
+use checker::places::num;
+use checker::places::offset;
+use lexer::keys::CALL;
+use lexer::keys::EQA;
+use lexer::keys::IF;
+use lexer::keys::OPEN;
+ghost use mathlib.Core.Path.{_≡_};
+ghost use Prim.Native.Nat.{_-_};
+ghost use Rattle.checker.specs.CheckAt.{names, Kept, Put};
+ghost use Rattle.checker.specs.CheckStored.{placeAt, callAt, termAt, eqaAt, conspAt};
+
+// One name more, in cells that are lent: how many are used then.
+pub(crate) fn put(cells: &mut [usize; 144], used: usize, x: usize) -> usize
+    ensures { λ r. ⌜ Put (now (cells .entry)) used x (now (cells .exit)) r ⌝ }
+{
+    if used < 144 {
+        cells[used] = x;
+        return used + 1;
+    }
+    used
+}
+
+// The number of the function with the name `x`, from number `j` on: `count` where there is none.
+fn place(nums: &[u16], n: usize, heads: &[usize], count: usize, j: usize, x: u16) -> usize
+    ensures { λ r. ⌜ r ≡ placeAt (now (nums .entry)) (now (nums .entry)) (now (nums .entry)) n (now (heads .entry)) (count - j) j x ⌝ }
+{
+    let mut at = j;
+    while at < count {
+        let h = index(heads, at);
+        if num(nums, n, h) == x {
+            return at;
+        }
+        at += 1;
+    }
+    at
+}
+
+// The number of the function with the name `x`.
+pub(crate) fn find(nums: &[u16], n: usize, heads: &[usize], count: usize, x: u16) -> usize
+    ensures { λ r. ⌜ r ≡ placeAt (now (nums .entry)) (now (nums .entry)) (now (nums .entry)) n (now (heads .entry)) count 0 x ⌝ }
+{
+    place(nums, n, heads, count, 0, x)
+}
+
+// "`(call F [e ..])`": "7 call of an unknown function, or a wrong number of arguments".
+fn call(
+    marks: &[u16],
+    nums: &[u16],
+    ats: &[u16],
+    n: usize,
+    heads: &[usize],
+    count: usize,
+    room: usize,
+    cells: &[usize],
+    used: usize,
+    i: usize,
+) -> Walked
+    ensures { λ r. ⌜ r ≡ callAt (now (marks .entry)) (now (nums .entry)) (now (ats .entry)) n (now (heads .entry)) count room (now (cells .entry)) used i ⌝ }
+{
+    let f = ahead(n, 2, i);
+    let g = find(nums, n, heads, count, num(nums, n, f));
+    let p = ahead(n, 2, index(heads, g));
+    let c = args(
+        marks,
+        nums,
+        ats,
+        n,
+        n,
+        room,
+        cells,
+        used,
+        p,
+        true,
+        Verdict::Fine,
+        ahead(n, 4, i),
+    );
+    let end = c.past;
+    let fits = c.fits;
+    let u = c.uses;
+    let v = judge(both(g < count, fits), 7, offset(ats, n, f));
+    called(ahead(n, 2, end), v, u)
+}
+
+// "`(if (eqa? ea ea) t t)`", behind whose bracket `room` brackets may be opened.
+fn eqa(
+    marks: &[u16],
+    nums: &[u16],
+    ats: &[u16],
+    n: usize,
+    heads: &[usize],
+    count: usize,
+    room: usize,
+    cells: &mut [usize; 144],
+    used: usize,
+    i: usize,
+) -> Walked
+    ensures { λ r. ⌜ (r ≡ eqaAt (now (marks .entry)) (now (nums .entry)) (now (ats .entry)) n (now (heads .entry)) count room (names (now (cells .entry)) used) i) × Kept used (now (cells .entry)) (now (cells .exit)) ⌝ }
+{
+    let c = ea(marks, nums, ats, n, room, cells, used, ahead(n, 4, i));
+    let c_past = c.past;
+    let d = ea(marks, nums, ats, n, room, cells, used, c_past);
+    let d_past = d.past;
+    let s = term(
+        marks,
+        nums,
+        ats,
+        n,
+        heads,
+        count,
+        room,
+        cells,
+        used,
+        ahead(n, 1, d_past),
+    );
+    let s_past = s.past;
+    let u = term(marks, nums, ats, n, heads, count, room, cells, used, s_past);
+    let u_past = u.past;
+    let s_names = s.names;
+    let u_names = u.names;
+    let c_uses = c.uses;
+    let d_uses = d.uses;
+    let s_uses = s.uses;
+    let u_uses = u.uses;
+    Walked {
+        past: ahead(n, 1, u_past),
+        names: first(s_names, u_names),
+        uses: first(c_uses, first(d_uses, first(s_uses, u_uses))),
+    }
+}
+
+// "`(if (cons? e xe xe xa) t t)`": "The true branch of `cons?` has its two xe, the false branch its xa, neither the other's."
+fn consp(
+    marks: &[u16],
+    nums: &[u16],
+    ats: &[u16],
+    n: usize,
+    heads: &[usize],
+    count: usize,
+    room: usize,
+    cells: &mut [usize; 144],
+    used: usize,
+    i: usize,
+) -> Walked
+    ensures { λ r. ⌜ (r ≡ conspAt (now (marks .entry)) (now (nums .entry)) (now (ats .entry)) n (now (heads .entry)) count room (names (now (cells .entry)) used) i) × Kept used (now (cells .entry)) (now (cells .exit)) ⌝ }
+{
+    let c = exp(marks, nums, ats, n, room, cells, used, ahead(n, 4, i));
+    let h = c.past;
+    let t = ahead(n, 1, h);
+    let x = ahead(n, 2, h);
+    let one = put(cells, used, h);
+    let two = put(cells, one, t);
+    let start = ahead(n, 4, h);
+    let s = term(marks, nums, ats, n, heads, count, room, cells, two, start);
+    let k = s.past;
+    let other = put(cells, used, x);
+    let u = term(marks, nums, ats, n, heads, count, room, cells, other, k);
+    let u_past = u.past;
+    let s_names = s.names;
+    let u_names = u.names;
+    let c_uses = c.uses;
+    let s_uses = s.uses;
+    let u_uses = u.uses;
+    let twice = judge(
+        negated(num(nums, n, h) == num(nums, n, t)),
+        6,
+        offset(ats, n, t),
+    );
+    Walked {
+        past: ahead(n, 1, u_past),
+        names: first(twice, first(s_names, u_names)),
+        uses: first(c_uses, first(s_uses, u_uses)),
+    }
+}
+
+// A t: "`(call F [e ..])`, `(if k t t)` or e".
+pub(crate) fn term(
+    marks: &[u16],
+    nums: &[u16],
+    ats: &[u16],
+    n: usize,
+    heads: &[usize],
+    count: usize,
+    room: usize,
+    cells: &mut [usize; 144],
+    used: usize,
+    i: usize,
+) -> Walked
+    ensures { λ r. ⌜ (r ≡ termAt (now (marks .entry)) (now (nums .entry)) (now (ats .entry)) n (now (heads .entry)) count room (names (now (cells .entry)) used) i) × Kept used (now (cells .entry)) (now (cells .exit)) ⌝ }
+{
+    if room == 0 {
+        return leaf(marks, nums, ats, n, cells, used, i);
+    }
+    if key(marks, n, i) == OPEN {
+        let form = key(marks, n, ahead(n, 1, i));
+        if form == CALL {
+            return call(marks, nums, ats, n, heads, count, room - 1, cells, used, i);
+        }
+        if form == IF {
+            if key(marks, n, ahead(n, 3, i)) == EQA {
+                return eqa(marks, nums, ats, n, heads, count, room - 1, cells, used, i);
+            }
+            return consp(marks, nums, ats, n, heads, count, room - 1, cells, used, i);
+        }
+        return pair(marks, nums, ats, n, room - 1, cells, used, i);
+    }
+    leaf(marks, nums, ats, n, cells, used, i)
+}

@@ -1,0 +1,67 @@
+-- Runs of a heap, and what is written behind them, for cells of any content. Nothing here asks for a length.
+use Prim.Native.Nat.{ℕ, zero, suc, _+_, _-_, min}
+use mathlib.Core.Bool.{Bool, true, false, cond, not}
+use mathlib.Core.List.{List, [], _∷_}
+use lib.Dec.{eqb, ltb, leb}
+use lib.ListN.{getD, set}
+use lib.Seq.{sets}
+use Rattle.sets.specs.Cells.{pairCode, anyCell}
+use Rattle.sets.specs.Fill.{FillAnswer, fillAnswer, spread}
+use Rattle.sets.specs.declared.fill.Filled.the-variants.{Done, Over}
+
+-- n cells from a place on
+unfoldable pub cellsAt : ℕ → ℕ → List ℕ → List ℕ
+cellsAt zero i h = []
+cellsAt (suc n) i h = getD h i 0 ∷ cellsAt n (i + 1) h
+
+-- the cells from one place up to another
+abbrev pub run : ℕ → ℕ → List ℕ → List ℕ
+run from to h = cellsAt (to - from) from h
+
+-- 1 once x was met
+abbrev pub metOf : ℕ → ℕ → ℕ → ℕ
+metOf n c x = cond (eqb c x) 1 n
+
+abbrev pub standsInRun : ℕ → ℕ → ℕ → List ℕ → Bool
+standsInRun from to x h = anyCell x (run from to h)
+
+-- how often x stands in cells
+abbrev pub oneMore : ℕ → ℕ → ℕ → ℕ
+oneMore n c x = cond (eqb c x) (n + 1) n
+
+unfoldable pub countIn : ℕ → List ℕ → ℕ
+countIn x [] = 0
+countIn x (c ∷ s) = cond (eqb c x) 1 0 + countIn x s
+
+-- the first place of x among n cells, and the place behind them where there is none
+unfoldable pub firstIn : ℕ → ℕ → ℕ → List ℕ → ℕ
+firstIn x zero i h = i
+firstIn x (suc n) i h = cond (eqb (getD h i 0) x) i (firstIn x n (i + 1) h)
+
+abbrev pub lacksEight : ℕ → ℕ → ℕ → List ℕ → Bool
+lacksEight i to x h = cond (ltb (to - i) 8) false (not (standsInRun i (i + 8) x h))
+
+abbrev pub renamedCell : ℕ → ℕ → ℕ → ℕ
+renamedCell c x y = cond (eqb c x) y c
+
+-- as many cells as there are when each x becomes `size` cells
+unfoldable pub spreadSize : ℕ → ℕ → List ℕ → ℕ
+spreadSize x size [] = 0
+spreadSize x size (c ∷ s) = cond (eqb c x) size 1 + spreadSize x size s
+
+-- cells written at `used`, if they fit
+unfoldable pub written : ℕ → ℕ → List ℕ → List ℕ → FillAnswer
+written used n w h = cond (leb (used + n) 65535) (fillAnswer (Done (used + n)) (sets h used w)) (fillAnswer Over h)
+
+-- a run, as far as it lies below `used`
+abbrev pub appended : ℕ → ℕ → ℕ → List ℕ → FillAnswer
+appended from to used h = written used (min to used - from) (run from (min to used) h) h
+
+-- each x of a run the cells of another
+abbrev pub appendedFilled : ℕ → ℕ → ℕ → ℕ → ℕ → ℕ → List ℕ → FillAnswer
+appendedFilled from to x vfrom vto used h =
+    written used (spreadSize x (min vto used - vfrom) (run from (min to used) h))
+    (spread x (run vfrom (min vto used) h) (run from (min to used) h)) h
+
+abbrev pub appendedPair : ℕ → ℕ → ℕ → List ℕ → FillAnswer
+appendedPair head tail used h = written used 3 (pairCode ∷ (head ∷ (tail ∷ []))) h

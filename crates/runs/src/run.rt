@@ -1,0 +1,222 @@
+// Runs of the heap. What is made is written at `used` and behind it, so that every range below stays as it is.
+use sets::cell;
+use sets::fill::Filled;
+ghost use mathlib.Core.Path.{_≡_};
+ghost use mathlib.Core.List.{_∷_, []};
+ghost use Prim.Native.Nat.{min, _+_, _-_, _≤_, _<_};
+ghost use lib.Seq.{sets};
+ghost use Rattle.sets.specs.Fill.{fillAnswer, spread};
+ghost use Rattle.runs.specs.Runs.{metOf, standsInRun, run, oneMore, countIn, lacksEight, firstIn, renamedCell, spreadSize, appended, appendedFilled, appendedPair};
+
+// The cells of the heap.
+pub const SIZE: usize = 65535;
+
+// 1 once x was met.
+fn met(n: u16, code: u16, x: u16) -> u16
+    ensures { λ r. ⌜ r ≡ metOf n code x ⌝ }
+{
+    if code == x { 1 } else { n }
+}
+
+// Whether x stands in a run. Every cell is looked at, with no way out before the last: the compiler then compares many at once.
+fn stands_below(heap: &[u16; 65535], from: usize, to: usize, x: u16) -> bool
+    requires { ⌜ to ≤ 65535 ⌝ }
+    ensures { λ r. ⌜ r ≡ standsInRun from to x (now (heap .entry)) ⌝ }
+{
+    let mut n: u16 = 0;
+    let mut i = from;
+    while i < to {
+        n = met(n, heap[i], x);
+        i += 1;
+    }
+    n == 1
+}
+
+// The same for a run of which any part may lie behind the heap.
+pub fn stands(heap: &[u16; 65535], from: usize, to: usize, x: u16) -> bool
+    ensures { λ r. ⌜ r ≡ standsInRun from (min to 65535) x (now (heap .entry)) ⌝ }
+{
+    stands_below(heap, from, cell::least(to, SIZE), x)
+}
+
+// One more where the cell is x.
+fn one_more(n: u16, code: u16, x: u16) -> u16
+    requires { ⌜ n < 65535 ⌝ }
+    ensures { λ r. ⌜ r ≡ oneMore n code x ⌝ }
+{
+    if code == x { n + 1 } else { n }
+}
+
+// How often x stands in a run.
+fn occurrences(heap: &[u16; 65535], from: usize, to: usize, x: u16) -> u16
+    requires { ⌜ to ≤ 65535 ⌝ }
+    ensures { λ r. ⌜ r ≡ countIn x (run from to (now (heap .entry))) ⌝ }
+{
+    let mut n: u16 = 0;
+    let mut i = from;
+    while i < to {
+        n = one_more(n, heap[i], x);
+        i += 1;
+    }
+    n
+}
+
+// The cells of a run when each x becomes `size` cells.
+fn filled_size(heap: &[u16; 65535], from: usize, to: usize, x: u16, size: usize) -> usize
+    requires { ⌜ (to ≤ 65535) × (size ≤ 65535) ⌝ }
+    ensures { λ r. ⌜ r ≡ spreadSize x size (run from to (now (heap .entry))) ⌝ }
+{
+    if to < from {
+        return 0;
+    }
+    let n = occurrences(heap, from, to, x) as usize;
+    (to - from) + n * size - n
+}
+
+// Whether the next eight cells are there and x stands in none.
+fn lacks_eight(heap: &[u16; 65535], i: usize, to: usize, x: u16) -> bool
+    requires { ⌜ (i ≤ to) × (to ≤ 65535) ⌝ }
+    ensures { λ r. ⌜ r ≡ lacksEight i to x (now (heap .entry)) ⌝ }
+{
+    if to - i < 8 {
+        return false;
+    }
+    if stands_below(heap, i, i + 8, x) {
+        false
+    } else {
+        true
+    }
+}
+
+// The first place of x in a run, and `to` where there is none.
+fn find(heap: &[u16; 65535], from: usize, to: usize, x: u16) -> usize
+    requires { ⌜ to ≤ 65535 ⌝ }
+    ensures { λ r. ⌜ r ≡ firstIn x (to - from) from (now (heap .entry)) ⌝ }
+{
+    let mut i = from;
+    while i < to {
+        if lacks_eight(heap, i, to, x) {
+            i += 8;
+            continue;
+        }
+        if heap[i] == x {
+            return i;
+        }
+        i += 1;
+    }
+    i
+}
+
+// The run from `from` up to `to`, as far as it lies below `used`, once more at `used`. Done: the place behind it.
+pub fn append(heap: &mut [u16; 65535], from: usize, to: usize, used: usize) -> Filled
+    ensures { λ r. ⌜ fillAnswer r (now (heap .exit)) ≡ appended from to used (now (heap .entry)) ⌝ }
+{
+    if SIZE < used {
+        return Filled::Over;
+    }
+    let end = cell::least(to, used);
+    let size = end - cell::least(from, end);
+    if SIZE - used < size {
+        return Filled::Over;
+    }
+    let mut i: usize = 0;
+    while i < size {
+        heap[used + i] = heap[from + i];
+        i += 1;
+    }
+    Filled::Done(used + size)
+}
+
+// The cell with y in the place of x.
+fn renamed(code: u16, x: u16, y: u16) -> u16
+    ensures { λ r. ⌜ r ≡ renamedCell code x y ⌝ }
+{
+    if code == x { y } else { code }
+}
+
+// The run with y in the place of each x, at `used`.
+fn rename(heap: &mut [u16; 65535], from: usize, end: usize, x: u16, y: u16, used: usize)
+    requires { ⌜ (end ≤ used) × (used + (end - from) ≤ 65535) ⌝ }
+    ensures { λ _. ⌜ now (heap .exit) ≡ sets (now (heap .entry)) used (spread x (y ∷ []) (run from end (now (heap .entry)))) ⌝ }
+{
+    let size = end - cell::least(from, end);
+    let mut i: usize = 0;
+    while i < size {
+        heap[used + i] = renamed(heap[from + i], x, y);
+        i += 1;
+    }
+}
+
+// The run with another run in the place of each x, at `used`: what stands between two of them is copied in one go.
+fn fill(
+    heap: &mut [u16; 65535],
+    from: usize,
+    end: usize,
+    x: u16,
+    vfrom: usize,
+    vend: usize,
+    used: usize,
+)
+    requires { ⌜ (end ≤ used) × (vend ≤ used) × (vfrom ≤ vend) × (used + spreadSize x (vend - vfrom) (run from end (now heap)) ≤ 65535) ⌝ }
+    ensures { λ _. ⌜ now (heap .exit) ≡ sets (now (heap .entry)) used (spread x (run vfrom vend (now (heap .entry))) (run from end (now (heap .entry)))) ⌝ }
+{
+    let size = vend - vfrom;
+    let mut k = used;
+    let mut i = from;
+    while i < end {
+        let j = find(heap, i, end, x);
+        append(heap, i, j, k);
+        k += j - i;
+        if end <= j {
+            return;
+        }
+        append(heap, vfrom, vend, k);
+        k += size;
+        i = j + 1;
+    }
+}
+
+// The run with the run from `vfrom` up to `vto` in the place of each x, at `used`. Where it is over, all stays as it was.
+pub fn append_filled(
+    heap: &mut [u16; 65535],
+    from: usize,
+    to: usize,
+    x: u16,
+    vfrom: usize,
+    vto: usize,
+    used: usize,
+) -> Filled
+    ensures { λ r. ⌜ fillAnswer r (now (heap .exit)) ≡ appendedFilled from to x vfrom vto used (now (heap .entry)) ⌝ }
+{
+    if SIZE < used {
+        return Filled::Over;
+    }
+    let end = cell::least(to, used);
+    let vend = cell::least(vto, used);
+    let start = cell::least(vfrom, vend);
+    let size = vend - start;
+    let all = filled_size(heap, from, end, x, size);
+    if SIZE - used < all {
+        return Filled::Over;
+    }
+    if size == 1 {
+        let y = heap[start];
+        rename(heap, from, end, x, y, used);
+        return Filled::Done(used + all);
+    }
+    fill(heap, from, end, x, start, vend, used);
+    Filled::Done(used + all)
+}
+
+// A pair of two leaves, at `used`.
+pub fn append_pair(heap: &mut [u16; 65535], head: u16, tail: u16, used: usize) -> Filled
+    ensures { λ r. ⌜ fillAnswer r (now (heap .exit)) ≡ appendedPair head tail used (now (heap .entry)) ⌝ }
+{
+    if 65532 < used {
+        return Filled::Over;
+    }
+    heap[used] = cell::PAIR;
+    heap[used + 1] = head;
+    heap[used + 2] = tail;
+    Filled::Done(used + 3)
+}

@@ -1,0 +1,3 @@
+pub mod SinkLaws
+pub mod DigitLaws
+pub mod TreeTurns
