@@ -30,7 +30,7 @@ fn first_cell(heap: &[u16; 65535], frame: &[u16; 12360], i: usize) -> u16
 
 // The value of the ea at i (001, figure 3: a name `a.x` or a symbol), the names' entries from `base` on; 0 where there is none.
 pub fn atom_at(
-    code: &[u16; 16388],
+    code: &[u16; 24582],
     heap: &[u16; 65535],
     frame: &[u16; 12360],
     base: usize,
@@ -52,7 +52,7 @@ pub fn atom_at(
 
 // The values of the two sides of the `eqa?` at the configuration's place: the first begins four tokens on, the second behind it.
 pub fn sides_at(
-    code: &[u16; 16388],
+    code: &[u16; 24582],
     heap: &[u16; 65535],
     frame: &[u16; 12360],
     c: Configuration,

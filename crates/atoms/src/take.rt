@@ -42,7 +42,7 @@ fn take(
 
 // "the true branch binds the left side to the right if left is a variable, else right to left"
 pub fn take_equal(
-    code: &[u16; 16388],
+    code: &[u16; 24582],
     heap: &mut [u16; 65535],
     frame: &mut [u16; 12360],
     q: &mut [u16; 4096],
@@ -60,7 +60,7 @@ pub fn take_equal(
 
 // "the false branch adds the non-equality as written"
 pub fn take_unequal(
-    code: &[u16; 16388],
+    code: &[u16; 24582],
     heap: &mut [u16; 65535],
     frame: &mut [u16; 12360],
     q: &mut [u16; 4096],

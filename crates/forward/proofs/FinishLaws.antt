@@ -30,6 +30,7 @@ use Rattle.heap.proofs.PartLaws.{held-first}
 use Rattle.heap.proofs.NodeLaws.{holds-nodes, held-nodes}
 use Rattle.linking.specs.Linked.{ExpLinked, TermLinked}
 use Rattle.linking.specs.Places.{envOf}
+use Rattle.constants.proofs.ConstantLaws.{NoConstants}
 use Rattle.values.proofs.ValueLaws.{Typed, Known}
 use Rattle.values.proofs.ArgumentLaws.{past-linked}
 use Rattle.values.proofs.StateLaws.{trees, nodes-length, Stands}
@@ -79,8 +80,8 @@ some-nodes x zero l = omega arith
 some-nodes frame.Held.none (suc k) l = absurd (omega arith)
 some-nodes (frame.Held.more {t = t} y r) (suc k) l = omega (arith, holds-nodes y, nodes-positive t, some-nodes r k (omega arith))
 
-module _ (p : Prog) (bodies : ℕ → ℕ) (code : List ℕ) (ok : Accepted p bodies code) (is : List Value) {h f q : List ℕ} {c : InCells} (t : Term) (σ : ValueEnv) (x : Stands p bodies code h f q c (at p bodies code ok is t σ)) where
-  tree-nodes : nodesAll (trees (at p bodies code ok is t σ .cr) (x .holds .values)) ≡ suc (nodesNext is (go t σ))
+module _ (p : Prog) (bodies : ℕ → ℕ) (code : List ℕ) (ok : Accepted p bodies code) (empty : NoConstants code) (is : List Value) {h f q : List ℕ} {c : InCells} (t : Term) (σ : ValueEnv) (x : Stands p bodies code h f q c (at p bodies code ok empty is t σ)) where
+  tree-nodes : nodesAll (trees (at p bodies code ok empty is t σ .cr) (x .holds .values)) ≡ suc (nodesNext is (go t σ))
   tree-nodes = omega (arith, state-nodes (x .holds), run-nodes is 1 t σ)
 
   -- "21 over 4,096 nodes"
@@ -89,19 +90,19 @@ module _ (p : Prog) (bodies : ℕ → ℕ) (code : List ℕ) (ok : Accepted p bo
     where
       pick : Dec (c .entries ≤ 4120) → overIn c f ≡ ltb 4097 (suc (nodesNext is (go t σ)))
       pick (yes l) =
-          let z : min (c .entries) 4120 ≡ length (trees (at p bodies code ok is t σ .cr) (x .holds .values)) = omega (arith, x .holds .entries) in
+          let z : min (c .entries) 4120 ≡ length (trees (at p bodies code ok empty is t σ .cr) (x .holds .values)) = omega (arith, x .holds .entries) in
           rw (z, held-nodes (x .holds .held), tree-nodes)
       pick (no l) =
           let z : min (c .entries) 4120 ≡ 4120 = omega arith in
           let a = some-nodes (x .holds .held) 4120 (omega (arith, x .holds .entries)) in
-          let b = nodes-length (trees (at p bodies code ok is t σ .cr) (x .holds .values)) in
+          let b = nodes-length (trees (at p bodies code ok empty is t σ .cr) (x .holds .values)) in
           rw (z, lt-ltb 4097 (nodesFrom 4120 0 f) (omega arith), lt-ltb 4097 (suc (nodesNext is (go t σ))) (omega (arith, tree-nodes, x .holds .entries)))
 
   -- "at an end of the inputs and the output"
   module _ (fits : nodesNext is (go t σ) ≤ 4096) where
     room-is : outputRoom c f ≡ 4096 - nodesInputs is
     room-is =
-        let ins = at p bodies code ok is t σ .cr .con .io .ins in
+        let ins = at p bodies code ok empty is t σ .cr .con .io .ins in
         let z : min (c .inputs) 4120 ≡ length ins = omega (arith, x .holds .inputs, x .holds .entries, entries-few (x .holds) (omega (arith, run-nodes is 1 t σ)), length-append ins (atm (sym 0) ∷ x .holds .values)) in
         let a : nodesFrom (length ins) 0 f ≡ nodesInputs is = held-nodes (held-first ins (atm (sym 0) ∷ x .holds .values) (x .holds .held)) ∙ inputs-nodes is in
         ap (λ (n : ℕ). 4096 - min (nodesFrom n 0 f) 4096) z ∙ ap (λ (n : ℕ). 4096 - min n 4096) a ∙ omega arith

@@ -29,6 +29,7 @@ use Rattle.linking.specs.Linked.{placeIn, withName, ExpLinked, ExpsLinked, Term
 use Rattle.linking.specs.Places.{envOf, withValue}
 use Rattle.linking.specs.declared.code.Link.{Link}
 use Rattle.linking.proofs.PlaceLaws.{bound-e, bound-a, bound-arguments}
+use Rattle.constants.proofs.ConstantLaws.{NoConstants, none-held}
 use Rattle.values.proofs.ValueLaws.{Typed, typed-length, Known}
 use Rattle.values.proofs.StateLaws.{known-in-scope, all-known, Stands}
 use Rattle.values.proofs.PairLaws.{entries-few, fits-typed}
@@ -102,16 +103,16 @@ cons-of ρ (pair d g) a b q l o = (d, g, refl, cc, cc)
 some-same : {A : Type 0} {a b : A} → some a ≡ some b → a ≡ b
 some-same e = cc
 
-module _ (p : Prog) (bodies : ℕ → ℕ) (code : List ℕ) (ok : Accepted p bodies code) (is : List Value) {h f q : List ℕ} {c : InCells} {t : Term} {σ : ValueEnv} (x : Stands p bodies code h f q c (at p bodies code ok is t σ))
+module _ (p : Prog) (bodies : ℕ → ℕ) (code : List ℕ) (ok : Accepted p bodies code) (empty : NoConstants code) (is : List Value) {h f q : List ℕ} {c : InCells} {t : Term} {σ : ValueEnv} (x : Stands p bodies code h f q c (at p bodies code ok empty is t σ))
     (fits : nodesNext is (go t σ) ≤ 4096) (scoped : WellScoped p t σ) (room : c .used + 8192 ≤ 65535) where
   abbrev K : Term → ValueEnv → Configuration
-  K u τ = at p bodies code ok is u τ
+  K u τ = at p bodies code ok empty is u τ
 
   abbrev asking : AskLeft
   asking = askedAt code c h f
 
   abbrev OnWay : Term → ValueEnv → Type 0
-  OnWay u τ = Way p bodies code ok is x fits scoped room u τ
+  OnWay u τ = Way p bodies code ok empty is x fits scoped room u τ
 
   -- the term u with the environment τ behind the way that is taken: each of its names has a source
   pub record Landing (b : Bool) (u : Term) (τ : ValueEnv) : Type 0 where
@@ -131,7 +132,7 @@ module _ (p : Prog) (bodies : ℕ → ℕ) (code : List ℕ) (ok : Accepted p bo
   υ = substOfEnv (envOf (x .names) (x .holds .values))
 
   few : c .entries < 4120
-  few = omega (arith, entries-few (x .holds) (size p bodies code ok is x fits scoped room))
+  few = omega (arith, entries-few (x .holds) (size p bodies code ok empty is x fits scoped room))
 
   subst-is : ρ ≡ υ
   subst-is = ap substOfEnv (x .holds .env)
@@ -140,7 +141,7 @@ module _ (p : Prog) (bodies : ℕ → ℕ) (code : List ℕ) (ok : Accepted p bo
   here s e = subst (λ (u : Term). TermLinked p bodies code (x .names) (c .place) u (x .past)) e (x .term)
 
   scoped-as : (s : Term) → t ≡ s → WellScoped p s (embedEnv σ)
-  scoped-as s e = subst (λ (u : Term). WellScoped p u (embedEnv σ)) e (in-scope p bodies code ok is x fits scoped room)
+  scoped-as s e = subst (λ (u : Term). WellScoped p u (embedEnv σ)) e (in-scope p bodies code ok empty is x fits scoped room)
 
   covered : (sc : Scope) → Covers sc (embedEnv σ) → Covers sc (envOf (x .names) (x .holds .values))
   covered sc k = subst (λ (τ : ExpEnv). Covers sc τ) (x .holds .env) k
@@ -169,7 +170,7 @@ module _ (p : Prog) (bodies : ℕ → ℕ) (code : List ℕ) (ok : Accepted p bo
         typed = fits-typed υ ps ds (sc .1);
         env = inv (ap (λ (z : Configuration). z .cr .con .env) m) ∙ ap (λ (s : Substitution). bindParams (apply s) (applyAtomic s) ps ds) subst-is ∙ bound-arguments υ ps ds (sc .1);
         B = c .used;
-        sources = rw (k .1) (call-sources code (x .holds) few room (asking .heap) (w .same) at-four (parts .2) known);
+        sources = rw (k .1) (call-sources code empty (x .holds) few room (asking .heap) (w .same) at-four (parts .2) known);
       }
 
   -- behind an `eqa?`
@@ -195,7 +196,7 @@ module _ (p : Prog) (bodies : ℕ → ℕ) (code : List ℕ) (ok : Accepted p bo
         B = c .used;
         sources =
             subst (λ (z : AskLeft). Sources code c (z .asked) f (c .used) (z .heap) (x .holds .values)) (inv (k .2))
-            (same-sources code (x .holds) few room h below-self (k .0) (k .1));
+            (same-sources code empty (x .holds) few room h below-self (k .0) (k .1));
       }
 
   -- behind a `cons?`
@@ -269,23 +270,23 @@ module _ (p : Prog) (bodies : ℕ → ℕ) (code : List ℕ) (ok : Accepted p bo
     landing-kind : (d : Exp) → apply ρ e ≡ d → (val : Value) → d ≡ embed val → Below (c .used) (looked .heap) h → Looked (c .used) (looked .heap) (looked .answer) d →
         (o : Bool) (u : Term) (τ : ValueEnv) → wayTo (tracePair m k n s v (K t σ .cr) 1 d) o ≡ some (K u τ) → Landing o u τ
     landing-kind d is-d val e2 b (atomAt {y = y} from to now i there grown most fits) o u τ q =
-        landing-atom y now (Atom from to now) i (atom-sources code (x .holds) few room (looked .heap) b test-here now grown fits from to y there) o u τ q
+        landing-atom y now (Atom from to now) i (atom-sources code empty (x .holds) few room (looked .heap) b test-here now grown fits from to y there) o u τ q
     landing-kind d is-d (atom z) e2 b (variableAt i) o u τ q = let o : _≡_ {A = ℕ} 0 1 = cc in absurd (omega arith)
     landing-kind d is-d (cons a r) e2 b (variableAt i) o u τ q = let o : _≡_ {A = ℕ} 0 1 = cc in absurd (omega arith)
     landing-kind d is-d val e2 b (pairAt {a = a} {b = r} from mid to now i head tail grown most fits) o u τ q =
-        landing-pair a r now (Pair from mid to now) i (pair-sources code (x .holds) few room (looked .heap) b test-here now grown fits from mid to a r head tail) o u τ q
+        landing-pair a r now (Pair from mid to now) i (pair-sources code empty (x .holds) few room (looked .heap) b test-here now grown fits from mid to a r head tail) o u τ q
     landing-kind d is-d val e2 b (largeAt {a = a} {b = r} i large) o u τ q =
-        let w = cons-of (embedEnv σ) e a r is-d (omega (arith, size p bodies code ok is x fits scoped room)) large in
+        let w = cons-of (embedEnv σ) e a r is-d (omega (arith, size p bodies code ok empty is x fits scoped room)) large in
         let l = subst (λ (z : Exp). ExpLinked code (x .names) (c .place + 4) z (test-here .names-from)) (w .2) (test-here .tested) in
         let kn = subst (λ (z : Exp). Known (x .names) z) (w .2) known in
         let a2 : apply υ (w .0) ≡ a = ap (λ (z : Substitution). apply z (w .0)) (inv subst-is) ∙ w .3 in
         let r2 : apply υ (w .1) ≡ r = ap (λ (z : Substitution). apply z (w .1)) (inv subst-is) ∙ w .4 in
         landing-pair a r (c .used) Large i (subst (λ (z : Exp). SourcesOf Large (c .used) (parts z r)) a2 (subst (λ (z : Exp). SourcesOf Large (c .used) (parts (apply υ (w .0)) z)) r2
-        (large-sources code (x .holds) few room (looked .heap) b test-here l kn))) o u τ q
+        (large-sources code empty (x .holds) few room (looked .heap) b test-here l kn))) o u τ q
 
     landing-test : (u : Term) (τ : ValueEnv) (w : OnWay u τ) → Landing (w .by) u τ
     landing-test u τ w =
-        let l = stands-look x (size p bodies code ok is x fits scoped room) room first-number (in-scope p bodies code ok is x fits scoped room) is-test in
+        let l = stands-look x (none-held empty) (size p bodies code ok empty is x fits scoped room) room first-number (in-scope p bodies code ok empty is x fits scoped room) is-test in
         landing-kind (apply ρ e) refl (ground (groundOf σ) e) (apply-embed σ e) (l .same) (l .is) (w .by) u τ (inv (ap (λ (z : Successors). wayTo z (w .by)) test-successors) ∙ w .to)
       where
         first-number : 1 ≤ 16381

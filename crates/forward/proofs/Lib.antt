@@ -7,4 +7,3 @@ pub mod LandingLaws
 pub mod FinishLaws
 pub mod TurnLaws
 pub mod RunMeans
-pub mod AcceptedRuns

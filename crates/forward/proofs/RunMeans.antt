@@ -25,6 +25,7 @@ use Rattle.heap.specs.declared.configuration.Configuration.{Configuration as In
 use Rattle.runs.proofs.RunLaws.{below-self}
 use Rattle.linking.specs.Linked.{TermLinked}
 use Rattle.linking.specs.Places.{envOf}
+use Rattle.constants.proofs.ConstantLaws.{NoConstants}
 use Rattle.values.proofs.ValueLaws.{Known}
 use Rattle.values.proofs.StateLaws.{known-in-scope, Stands}
 use Rattle.values.proofs.PairLaws.{entries-few}
@@ -67,24 +68,24 @@ module _ (p : Prog) (is : List Value) where
   unfolding runner
   runner-over steps l = from-over steps 0 (go (startTerm p) (startEnv p is)) l
 
-module _ (p : Prog) (bodies : ℕ → ℕ) (code : List ℕ) (ok : Accepted p bodies code) (is : List Value) (d : List ℕ) (long : 4096 ≤ length d) where
+module _ (p : Prog) (bodies : ℕ → ℕ) (code : List ℕ) (ok : Accepted p bodies code) (empty : NoConstants code) (is : List Value) (d : List ℕ) (long : 4096 ≤ length d) where
   abbrev K : Term → ValueEnv → Configuration
-  K t σ = at p bodies code ok is t σ
+  K t σ = at p bodies code ok empty is t σ
 
   -- behind a turn
   behind : (m k : ℕ) →
-      ((h f q : List ℕ) (c : InCells) (t : Term) (σ : ValueEnv) → Running p bodies code ok is h f q c t σ → RanMeans d (runFrom p is m k (go t σ)) (ranFrom code m k c h f q d)) →
-      (n : Next) (w : TurnLeft) → TurnMeans p bodies code ok is k d w n → RanMeans d (runFrom p is m k n) (afterTurn (ranFrom code m k) w)
+      ((h f q : List ℕ) (c : InCells) (t : Term) (σ : ValueEnv) → Running p bodies code ok empty is h f q c t σ → RanMeans d (runFrom p is m k (go t σ)) (ranFrom code m k c h f q d)) →
+      (n : Next) (w : TurnLeft) → TurnMeans p bodies code ok empty is k d w n → RanMeans d (runFrom p is m k n) (afterTurn (ranFrom code m k) w)
   behind m k again n w (overTurn l e z) = rw (from-over p is m k n l, e) (refl, z)
   behind m k again n w (endTurn {v = v} l e z) = rw (from-end p is m k v l, e, z)
   behind m k again n w (goTurn {t = t} {σ = σ} c e z r) = rw (e, z) (again (w .heap) (w .frame) (w .q) c t σ r)
 
-  loop-means : (m k : ℕ) (h f q : List ℕ) (c : InCells) (t : Term) (σ : ValueEnv) → Running p bodies code ok is h f q c t σ → RanMeans d (runFrom p is m k (go t σ)) (ranFrom code m k c h f q d)
+  loop-means : (m k : ℕ) (h f q : List ℕ) (c : InCells) (t : Term) (σ : ValueEnv) → Running p bodies code ok empty is h f q c t σ → RanMeans d (runFrom p is m k (go t σ)) (ranFrom code m k c h f q d)
   unfolding ranFrom
   loop-means zero k h f q c t σ r = rw (from-go p is k t σ (r .fits) .0)
   loop-means (suc m) k h f q c t σ r =
       let z : k + 1 ≡ suc k = omega arith in
-      rw (from-go p is k t σ (r .fits) .1 m, z) (behind m (suc k) (loop-means m (suc k)) (atResult p (step p t σ)) (turned code c (suc k) h f q d) (turn-means p bodies code ok is r (suc k) d long))
+      rw (from-go p is k t σ (r .fits) .1 m, z) (behind m (suc k) (loop-means m (suc k)) (atResult p (step p t σ)) (turned code c (suc k) h f q d) (turn-means p bodies code ok empty is r (suc k) d long))
 
   abbrev σ : ValueEnv
   σ = startEnv p is
@@ -96,7 +97,7 @@ module _ (p : Prog) (bodies : ℕ → ℕ) (code : List ℕ) (ok : Accepted p bo
   module _ (main-fits : FitsInputs (find p 0 .params) is) (fit : fits (find p 0 .params) (map embed is) ≡ true) (h f q : List ℕ) (c : InCells) (few : c .used ≤ 4096) where
     module _ (t : Term) (begins : step p (startTerm p) σ ≡ go t σ) (x : Stands p bodies code h f q c (K t σ)) (small : nodesNext is first ≤ 4096) where
       scoped : WellScoped p t σ
-      scoped = scoped-next p bodies code ok is (start-scoped p is (ok .formed) main-fits) begins
+      scoped = scoped-next p bodies code ok empty is (start-scoped p is (ok .formed) main-fits) begins
 
       room : c .used + 8192 ≤ 65535
       room = omega arith
@@ -120,11 +121,11 @@ module _ (p : Prog) (bodies : ℕ → ℕ) (code : List ℕ) (ok : Accepted p bo
             pick : (v : Value) → apply (substOfEnv (envOf (x .names) (x .holds .values))) e ≡ embed v → Dec (nodesInputs is + nodesValue v ≤ 4096) →
                 RanMeans d (runFrom p is n 1 (end v)) (finishedRan (finished code c End (c .place) 1 h f d))
             pick v same (yes l) =
-                let z = finish-value p bodies code ok is t σ x small End (c .used) h (x .holds .heap-size) d long (x .names) (x .holds .values) (x .holds .typed) (end-sources code (x .holds) few-entries room h below-self)
+                let z = finish-value p bodies code ok empty is t σ x small End (c .used) h (x .holds .heap-size) d long (x .names) (x .holds .values) (x .holds .typed) (end-sources code empty (x .holds) few-entries room h below-self)
                 (c .place) (x .past) e (result-linked at-end) known v same 1 l in
                 rw (from-end p is n 1 v l, z .0, z .1)
             pick v same (no l) =
-                let z = finish-over p bodies code ok is t σ x small End (c .used) h (x .holds .heap-size) d long (x .names) (x .holds .values) (x .holds .typed) (end-sources code (x .holds) few-entries room h below-self)
+                let z = finish-over p bodies code ok empty is t σ x small End (c .used) h (x .holds .heap-size) d long (x .names) (x .holds .values) (x .holds .typed) (end-sources code empty (x .holds) few-entries room h below-self)
                 (c .place) (x .past) e (result-linked at-end) known v same 1 (omega arith) in
                 rw (from-over p is n 1 (end v) (omega arith)) z
 
@@ -146,10 +147,10 @@ module _ (p : Prog) (bodies : ℕ → ℕ) (code : List ℕ) (ok : Accepted p bo
 
       steps-mean : (steps : ℕ) → RanMeans d (runner p steps is) (ranOn code c steps h f q d)
       unfolding runner ranOn
-      steps-mean zero = rw (from-go p is 0 (startTerm p) σ small .0, over-is p bodies code ok is t σ x ∙ le-ltb 4097 (suc (nodesNext is (go t σ))) (omega arith))
+      steps-mean zero = rw (from-go p is 0 (startTerm p) σ small .0, over-is p bodies code ok empty is t σ x ∙ le-ltb 4097 (suc (nodesNext is (go t σ))) (omega arith))
       steps-mean (suc n) =
           let z : suc n - 1 ≡ n = omega arith in
-          rw (from-go p is 0 (startTerm p) σ small .1 n, begins, over-is p bodies code ok is t σ x ∙ le-ltb 4097 (suc (nodesNext is (go t σ))) (omega arith), ne-eqb (suc n) 0 (λ e. omega arith), z) (begun-means n)
+          rw (from-go p is 0 (startTerm p) σ small .1 n, begins, over-is p bodies code ok empty is t σ x ∙ le-ltb 4097 (suc (nodesNext is (go t σ))) (omega arith), ne-eqb (suc n) 0 (λ e. omega arith), z) (begun-means n)
 
     -- THE LAW of a run
     pub run-means : Stands p bodies code h f q c (K (find p 0 .body) σ) → (steps : ℕ) → RanMeans d (runner p steps is) (ranOn code c steps h f q d)
@@ -159,4 +160,4 @@ module _ (p : Prog) (bodies : ℕ → ℕ) (code : List ℕ) (ok : Accepted p bo
         pick : Dec (nodesNext is first ≤ 4096) → RanMeans d (runner p steps is) (ranOn code c steps h f q d)
         pick (yes l) = steps-mean (find p 0 .body) (start-step p is (ok .formed) fit) x l steps
         pick (no l) =
-            rw (runner-over p is steps (omega arith), over-is p bodies code ok is (find p 0 .body) σ x ∙ lt-ltb 4097 (suc (nodesNext is first)) (omega arith)) (refl, refl)
+            rw (runner-over p is steps (omega arith), over-is p bodies code ok empty is (find p 0 .body) σ x ∙ lt-ltb 4097 (suc (nodesNext is first)) (omega arith)) (refl, refl)

@@ -23,6 +23,7 @@ use Rattle.linking.specs.Code.{link, linkAt}
 use Rattle.linking.specs.Linked.{placeIn, withName, ExpLinked, consLinked, ExpsLinked, noneLinked, moreLinked}
 use Rattle.linking.specs.Places.{envOf, withValue}
 use Rattle.linking.specs.declared.code.Link.{Link}
+use Rattle.constants.proofs.ConstantLaws.{NoConstants, none-held}
 use Rattle.values.specs.Names.{namesFrom}
 use Rattle.values.specs.Values.{ValueLeft, valueLeft, valueAt}
 use Rattle.values.specs.declared.value.Valued.the-variants.{At}
@@ -103,7 +104,7 @@ applied-length : (s : Substitution) (ds : List Exp) → length (applyAll s ds) �
 applied-length s [] = refl
 applied-length s (e ∷ ds) = ap suc (applied-length s ds)
 
-module _ (code : List ℕ) {h f q : List ℕ} {c : InCells} {names : List Param} {P : CRPair state} (x : HoldsPair h f q c names P) (few : c .entries < 4120) (room : c .used + 8192 ≤ 65535)
+module _ (code : List ℕ) (empty : NoConstants code) {h f q : List ℕ} {c : InCells} {names : List Param} {P : CRPair state} (x : HoldsPair h f q c names P) (few : c .entries < 4120) (room : c .used + 8192 ≤ 65535)
     (g : List ℕ) (same : Below (c .used) g h) where
   abbrev vs : List Exp
   vs = x .values
@@ -130,7 +131,7 @@ module _ (code : List ℕ) {h f q : List ℕ} {c : InCells} {names : List Param}
 
   -- an expression of the program
   exp-source : (e : List ℕ) → Kept (c .used) g e → {i : ℕ} {t : Exp} {j : ℕ} → ExpLinked code names i t j → Known names t → Source (c .used) g (apply σ t) (ownAt code c i e f)
-  exp-source e k {i} {t} l kn = go (value-outcome code f (namesFrom c) e (c .used) names vs (x .typed) (held-here (c .used) (omega arith) e k) slots (k .size) (x .fits) l kn)
+  exp-source e k {i} {t} l kn = go (value-outcome code f (namesFrom c) e (c .used) names vs (x .typed) (held-here (c .used) (omega arith) e k) slots (k .size) (x .fits) (none-held empty) l kn)
     where
       go : values.Outcome code f (namesFrom c) e (c .used) names vs (x .typed) (held-here (c .used) (omega arith) e k) slots i (apply σ t) → Source (c .used) g (apply σ t) (ownAt code c i e f)
       go (inl o) = inl (o .0, omega (arith, o .1))

@@ -27,6 +27,7 @@ use Rattle.heap.specs.declared.configuration.Moved.the-variants.{Over as MovedO
 use Rattle.heap.proofs.CompactLaws.{Compacted, compact-means}
 use Rattle.linking.specs.Linked.{ExpLinked, TermLinked, resultLinked}
 use Rattle.linking.specs.Places.{envOf}
+use Rattle.constants.proofs.ConstantLaws.{NoConstants}
 use Rattle.values.proofs.ValueLaws.{Known}
 use Rattle.values.proofs.StateLaws.{trees, known-in-scope, Stands, Arrives}
 use Rattle.values.proofs.PairLaws.{state-nodes, entries-few}
@@ -45,9 +46,9 @@ use Rattle.forward.proofs.FinishLaws.{isResult, ends-is, over-is, finis
 pub result-linked : {p : Prog} {bodies : ℕ → ℕ} {code : List ℕ} {sc : List Param} {i k : ℕ} {e : Exp} → TermLinked p bodies code sc i (result e) k → ExpLinked code sc i e k
 result-linked (resultLinked x) = x
 
-module _ (p : Prog) (bodies : ℕ → ℕ) (code : List ℕ) (ok : Accepted p bodies code) (is : List Value) where
+module _ (p : Prog) (bodies : ℕ → ℕ) (code : List ℕ) (ok : Accepted p bodies code) (empty : NoConstants code) (is : List Value) where
   abbrev K : Term → ValueEnv → Configuration
-  K t σ = at p bodies code ok is t σ
+  K t σ = at p bodies code ok empty is t σ
 
   -- The storages hold a state that is no end.
   pub record Running (h f q : List ℕ) (c : InCells) (t : Term) (σ : ValueEnv) : Type 0 where
@@ -134,10 +135,10 @@ module _ (p : Prog) (bodies : ℕ → ℕ) (code : List ℕ) (ok : Accepted p bo
     here = turnedAsked code c k asking f q d
 
     abbrev OnWay : Term → ValueEnv → Type 0
-    OnWay u τ = Way p bodies code ok is x fits scoped room u τ
+    OnWay u τ = Way p bodies code ok empty is x fits scoped room u τ
 
     abbrev Lands : Bool → Term → ValueEnv → Type 0
-    Lands b u τ = Landing p bodies code ok is x fits scoped room b u τ
+    Lands b u τ = Landing p bodies code ok empty is x fits scoped room b u τ
 
     here-is : (b : Bool) → branchesAsked (c .neqs) (asking .asked) q .yes ≡ b → here ≡ turnedBy code c k (asking .asked) b (asking .heap) f q d
     here-is b e = ap (λ (o : Bool). turnedBy code c k (asking .asked) o (asking .heap) f q d) e
@@ -163,11 +164,11 @@ module _ (p : Prog) (bodies : ℕ → ℕ) (code : List ℕ) (ok : Accepted p bo
         pick : (v : Value) → apply (substOfEnv (envOf (l .names) (l .values))) e ≡ embed v → WellScoped p (result e) τ → Dec (nodesInputs is + nodesValue v ≤ 4096) →
             TurnMeans k d (endedTurn f q (finished code c (asking .asked) (nextPlace code (c .place) (w .by)) k (asking .heap) f d)) (end v)
         pick v value s (yes m) =
-            let z = finish-value p bodies code ok is t σ x fits (asking .asked) (l .B) (asking .heap) (w .whole) d long (l .names) (l .values) (l .typed) (l .sources) (nextPlace code (c .place) (w .by)) (l .past) e
+            let z = finish-value p bodies code ok empty is t σ x fits (asking .asked) (l .B) (asking .heap) (w .whole) d long (l .names) (l .values) (l .typed) (l .sources) (nextPlace code (c .place) (w .by)) (l .past) e
             (result-linked (l .term)) (known-end e τ s (w .by) l) v value k m in
             endTurn m (ap Ended (z .0)) (z .1)
         pick v value s (no m) =
-            let z = finish-over p bodies code ok is t σ x fits (asking .asked) (l .B) (asking .heap) (w .whole) d long (l .names) (l .values) (l .typed) (l .sources) (nextPlace code (c .place) (w .by)) (l .past) e
+            let z = finish-over p bodies code ok empty is t σ x fits (asking .asked) (l .B) (asking .heap) (w .whole) d long (l .names) (l .values) (l .typed) (l .sources) (nextPlace code (c .place) (w .by)) (l .past) e
             (result-linked (l .term)) (known-end e τ s (w .by) l) v value k (omega arith) in
             overTurn {n = end v} (omega arith) (ap Ended (z .0)) (z .1)
 
@@ -184,21 +185,21 @@ module _ (p : Prog) (bodies : ℕ → ℕ) (code : List ℕ) (ok : Accepted p bo
           where
             by-size : Dec (nodesNext is (go u τ) ≤ 4096) → TurnMeans k d (wentTurn d (sizedLeft W)) (go u τ)
             by-size (yes m) =
-                let o = over-is p bodies code ok is u τ (a .stands) ∙ le-ltb 4097 (suc (nodesNext is (go u τ))) (omega arith) in
+                let o = over-is p bodies code ok empty is u τ (a .stands) ∙ le-ltb 4097 (suc (nodesNext is (go u τ))) (omega arith) in
                 goTurn (a .at) (rw (a .moved, o)) refl (record { stands = a .stands; going = no-end; scoped = s; fits = m; low = omega (arith, a .most, run-nodes is 1 u τ) })
             by-size (no m) =
-                let o = over-is p bodies code ok is u τ (a .stands) ∙ lt-ltb 4097 (suc (nodesNext is (go u τ))) (omega arith) in
+                let o = over-is p bodies code ok empty is u τ (a .stands) ∙ lt-ltb 4097 (suc (nodesNext is (go u τ))) (omega arith) in
                 overTurn {n = go u τ} (omega arith) (rw (a .moved, o)) refl
 
     here-means : TurnMeans k d here (atResult p (step p t σ))
     unfolding step
-    here-means = pick (step p t σ) refl (way p bodies code ok is x fits scoped room)
+    here-means = pick (step p t σ) refl (way p bodies code ok empty is x fits scoped room)
       where
-        pick : (n : Next) → step p t σ ≡ n → WayTo p bodies code ok is x fits scoped room n → TurnMeans k d here (atResult p n)
+        pick : (n : Next) → step p t σ ≡ n → WayTo p bodies code ok empty is x fits scoped room n → TurnMeans k d here (atResult p n)
         pick (end v) i w = absurd (false≢true (inv going ∙ ap isResult (w .1)))
-        pick (go (result e) τ) i w = landed-end e τ i w (landing p bodies code ok is x fits scoped room (result e) τ i w)
-        pick (go (call g ds) τ) i w = landed-go (call g ds) τ refl i w (landing p bodies code ok is x fits scoped room (call g ds) τ i w)
-        pick (go (conditional b s v) τ) i w = landed-go (conditional b s v) τ refl i w (landing p bodies code ok is x fits scoped room (conditional b s v) τ i w)
+        pick (go (result e) τ) i w = landed-end e τ i w (landing p bodies code ok empty is x fits scoped room (result e) τ i w)
+        pick (go (call g ds) τ) i w = landed-go (call g ds) τ refl i w (landing p bodies code ok empty is x fits scoped room (call g ds) τ i w)
+        pick (go (conditional b s v) τ) i w = landed-go (conditional b s v) τ refl i w (landing p bodies code ok empty is x fits scoped room (conditional b s v) τ i w)
 
   -- THE LAW of a turn
   pub turn-means : {h f q : List ℕ} {c : InCells} {t : Term} {σ : ValueEnv} → Running h f q c t σ → (k : ℕ) (d : List ℕ) → 4096 ≤ length d → TurnMeans k d (turned code c k h f q d) (atResult p (step p t σ))

@@ -20,6 +20,7 @@ use Rattle.semantics.proofs.Scopes.{WellScoped, scoped-map}
 use Rattle.heap.specs.Moving.{Left}
 use Rattle.heap.specs.declared.configuration.Configuration.{Configuration as InCells}
 use Rattle.runs.proofs.RunLaws.{Below}
+use Rattle.constants.proofs.ConstantLaws.{NoConstants, none-held}
 use Rattle.values.proofs.StateLaws.{Stands, Leads}
 use Rattle.initial.proofs.EmbedLaws.{runPair, run-nodes}
 use Rattle.tracing.specs.Asking.{AskLeft, askedAt, isCall, branchesAsked, takenAs}
@@ -41,7 +42,7 @@ asked-call Call e = refl
 asked-call (Same x y) e = absurd (false≢true e)
 asked-call (Test t) e = absurd (false≢true e)
 
-module _ (p : Prog) (bodies : ℕ → ℕ) (code : List ℕ) (ok : Accepted p bodies code) (is : List Value) where
+module _ (p : Prog) (bodies : ℕ → ℕ) (code : List ℕ) (ok : Accepted p bodies code) (empty : NoConstants code) (is : List Value) where
   -- a state of a run as a configuration
   abbrev pub at : Term → ValueEnv → Configuration
   at t σ = atState (runPair is) 1 t σ
@@ -81,7 +82,7 @@ module _ (p : Prog) (bodies : ℕ → ℕ) (code : List ℕ) (ok : Accepted p bo
     WayTo (go u τ) = Way u τ
 
     abbrev Shown : Successors → Type 0
-    Shown s = Shows p bodies code ok x size few-neqs refl first-number in-scope room s
+    Shown s = Shows p bodies code ok x (none-held empty) size few-neqs refl first-number in-scope room s
 
     one-way : {s : Successors} {n : Next} → OneSuccessor (runPair is) 1 s n → successors p (at t σ) ≡ s → Shown s → WayTo n
     one-way (embedding.OneSuccessor.ends v) e w = w .2
@@ -120,4 +121,4 @@ module _ (p : Prog) (bodies : ℕ → ℕ) (code : List ℕ) (ok : Accepted p bo
 
     -- THE LAW of the way on
     pub way : WayTo (step p t σ)
-    way = one-way (forward (runPair is) 1 p t σ) refl (shows p bodies code ok x size few-neqs refl first-number in-scope room)
+    way = one-way (forward (runPair is) 1 p t σ) refl (shows p bodies code ok x (none-held empty) size few-neqs refl first-number in-scope room)

@@ -12,7 +12,7 @@ ghost use Rattle.forward.specs.Running.{runBegun, runInputs};
 
 // From what the job begins as, on.
 fn run_begun(
-    code: &[u16; 16388],
+    code: &[u16; 24582],
     heap: &mut [u16; 65535],
     frame: &mut [u16; 12360],
     q: &mut [u16; 4096],
@@ -36,7 +36,7 @@ pub fn run_inputs(
     jmarks: &[u16],
     jnums: &[u16],
     parts: JobEnds,
-    code: &[u16; 16388],
+    code: &[u16; 24582],
     steps: usize,
     answer: &mut [u16],
 ) -> Ran

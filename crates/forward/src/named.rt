@@ -15,7 +15,7 @@ ghost use Rattle.looking.specs.Looking.{testAt};
 ghost use Rattle.forward.specs.Naming.{argumentFrom, bindersOf, ownAt, argumentNamed, partIndex, testedNamed, namedAt};
 
 // The index of an argument, so many behind the one at i.
-fn argument_from(code: &[u16; 16388], q: u16, i: usize) -> usize
+fn argument_from(code: &[u16; 24582], q: u16, i: usize) -> usize
     ensures { λ r. ⌜ r ≡ argumentFrom (now (code .entry)) q i ⌝ }
 {
     let mut left = q;
@@ -44,7 +44,7 @@ pub(crate) struct Binders {
 }
 
 // They stand behind what is tested.
-fn binders_of(code: &[u16; 16388], c: Configuration) -> Binders
+fn binders_of(code: &[u16; 24582], c: Configuration) -> Binders
     ensures { λ r. ⌜ r ≡ bindersOf (now (code .entry)) c ⌝ }
 {
     let l = link_at(code, inner(c));
@@ -62,7 +62,7 @@ fn binders_of(code: &[u16; 16388], c: Configuration) -> Binders
 
 // The value of the expression at i in the configuration's environment.
 fn own_value(
-    code: &[u16; 16388],
+    code: &[u16; 24582],
     heap: &mut [u16; 65535],
     frame: &[u16; 12360],
     c: Configuration,
@@ -75,7 +75,7 @@ fn own_value(
 
 // Behind a call a name is a parameter: its value is that of the argument with its place.
 fn argument_value(
-    code: &[u16; 16388],
+    code: &[u16; 24582],
     heap: &mut [u16; 65535],
     frame: &[u16; 12360],
     c: Configuration,
@@ -89,7 +89,7 @@ fn argument_value(
 
 // The part of the `cons` that is tested to which the name with the place q is bound, or the name's own token j. What the heap has no room for is a `cons`
 // of the program.
-fn part_index(code: &[u16; 16388], c: Configuration, b: Binders, q: u16, j: usize) -> usize
+fn part_index(code: &[u16; 24582], c: Configuration, b: Binders, q: u16, j: usize) -> usize
     ensures { λ r. ⌜ r ≡ partIndex (now (code .entry)) c b q j ⌝ }
 {
     let i = inner(c) + 2;
@@ -106,7 +106,7 @@ fn part_index(code: &[u16; 16388], c: Configuration, b: Binders, q: u16, j: usiz
 
 // Behind a `cons?`: its names are bound to the atom, or to the parts of the pair; the others are what they were.
 fn tested_value(
-    code: &[u16; 16388],
+    code: &[u16; 24582],
     heap: &mut [u16; 65535],
     frame: &[u16; 12360],
     c: Configuration,
@@ -153,7 +153,7 @@ fn tested_value(
 
 // The value of the name at j, behind the configuration's term and what it asked.
 pub(crate) fn name_value(
-    code: &[u16; 16388],
+    code: &[u16; 24582],
     heap: &mut [u16; 65535],
     frame: &[u16; 12360],
     c: Configuration,

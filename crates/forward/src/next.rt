@@ -8,7 +8,7 @@ ghost use mathlib.Core.Bool.{Bool};
 ghost use Rattle.forward.specs.Next.{nextPlace, endsAt, overIn};
 
 // Where the term stands to which the one at `place` leads: the body of a call, the branch of a condition.
-pub(crate) fn next_place(code: &[u16; 16388], place: usize, taken: bool) -> usize
+pub(crate) fn next_place(code: &[u16; 24582], place: usize, taken: bool) -> usize
     ensures { λ r. ⌜ r ≡ nextPlace (now (code .entry)) place taken ⌝ }
 {
     let l = link_at(code, place);
@@ -21,7 +21,7 @@ pub(crate) fn next_place(code: &[u16; 16388], place: usize, taken: bool) -> usiz
 }
 
 // "A state whose term is an e is an end".
-pub(crate) fn ends_at(code: &[u16; 16388], i: usize) -> bool
+pub(crate) fn ends_at(code: &[u16; 24582], i: usize) -> bool
     ensures { λ r. ⌜ r ≡ endsAt (now (code .entry)) i ⌝ }
 {
     let l = link_at(code, i);

@@ -57,7 +57,7 @@ fn put_value(heap: &[u16; 65535], v: Valued, answer: &mut [u16], at: usize, limi
 
 // The cells of the token j: a symbol's or a pair's own, a name's value.
 fn push_token(
-    code: &[u16; 16388],
+    code: &[u16; 24582],
     heap: &mut [u16; 65535],
     frame: &[u16; 12360],
     c: Configuration,
@@ -84,7 +84,7 @@ fn push_token(
 
 // Those of the expression at i, behind the configuration's term and what it asked. Done: how many there are.
 pub(crate) fn push_output(
-    code: &[u16; 16388],
+    code: &[u16; 24582],
     heap: &mut [u16; 65535],
     frame: &[u16; 12360],
     c: Configuration,

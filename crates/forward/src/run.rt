@@ -15,7 +15,7 @@ ghost use Rattle.forward.specs.Running.{ranFrom, ranOn};
 
 // From a state that is no end, one step from the start, on.
 fn run_from(
-    code: &[u16; 16388],
+    code: &[u16; 24582],
     heap: &mut [u16; 65535],
     frame: &mut [u16; 12360],
     q: &mut [u16; 4096],
@@ -44,7 +44,7 @@ fn run_from(
 
 // From main's body on, the call of which is the first step: "21 .. at the start", an end, `not within N`.
 pub(crate) fn run_on(
-    code: &[u16; 16388],
+    code: &[u16; 24582],
     heap: &mut [u16; 65535],
     frame: &mut [u16; 12360],
     q: &mut [u16; 4096],

@@ -58,7 +58,7 @@ fn output_room(frame: &[u16; 12360], c: Configuration) -> usize
 
 // The end whose term stands at i, so many steps from the start.
 pub(crate) fn finish(
-    code: &[u16; 16388],
+    code: &[u16; 24582],
     heap: &mut [u16; 65535],
     frame: &[u16; 12360],
     c: Configuration,
@@ -76,7 +76,7 @@ pub(crate) fn finish(
 
 // A transition to a state that is no end; "21 .. after a transition". No branch that is there contradicts.
 fn advance(
-    code: &[u16; 16388],
+    code: &[u16; 24582],
     heap: &mut [u16; 65535],
     frame: &mut [u16; 12360],
     q: &mut [u16; 4096],
@@ -101,7 +101,7 @@ fn advance(
 
 // The last of `steps` transitions, from a state that is no end. A run has no variables: a condition has one branch.
 pub(crate) fn take_turn(
-    code: &[u16; 16388],
+    code: &[u16; 24582],
     heap: &mut [u16; 65535],
     frame: &mut [u16; 12360],
     q: &mut [u16; 4096],

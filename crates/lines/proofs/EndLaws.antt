@@ -32,6 +32,7 @@ use Rattle.heap.proofs.NodeLaws.{holds-nodes}
 use Rattle.linking.specs.Linked.{ExpLinked, TermLinked, resultLinked}
 use Rattle.linking.specs.Places.{envOf}
 use Rattle.saving.specs.declared.head.Node.{Node as Saved}
+use Rattle.constants.proofs.ConstantLaws.{Constants}
 use Rattle.values.specs.Names.{namesFrom}
 use Rattle.values.specs.Values.{ValueLeft, valueAt}
 use Rattle.values.specs.declared.value.Valued.the-variants.{At, Over as ValuedOver}
@@ -123,7 +124,7 @@ unfolding unified
 unified-over P h f q c m e = rw (class-over m, e)
 
 -- The end of a path that the storages hold.
-module _ (p : Prog) (bodies : ℕ → ℕ) (code : List ℕ) {h f q : List ℕ} {c : InCells} (x : Node) (S : Stands p bodies code h f q c (x .conf)) (e : Exp) (is : x .conf .term ≡ result e) (size : nodesState (x .conf .cr) ≤ 4096)
+module _ (p : Prog) (bodies : ℕ → ℕ) (code : List ℕ) {h f q : List ℕ} {c : InCells} (x : Node) (S : Stands p bodies code h f q c (x .conf)) (constants : Constants code h (c .used)) (e : Exp) (is : x .conf .term ≡ result e) (size : nodesState (x .conf .cr) ≤ 4096)
     (simple : simplify (x .conf .cr .neqs) ≡ some (x .conf .cr .neqs)) (scoped : WellScoped p (x .conf .term) (x .conf .cr .con .env)) (low : c .used ≤ 40959) where
   abbrev v : HoldsPair h f q c (S .names) (x .conf .cr)
   v = S .holds
@@ -222,7 +223,7 @@ module _ (p : Prog) (bodies : ℕ → ℕ) (code : List ℕ) {h f q : List ℕ} 
   output-none d = rw d
 
   met : MeetsAs (outputMet code c h f q)
-  met = go u refl (value-outcome code f (namesFrom c) h (c .used) (S .names) (v .values) (v .typed) held-names few-names (v .heap-size) (v .fits) linked known)
+  met = go u refl (value-outcome code f (namesFrom c) h (c .used) (S .names) (v .values) (v .typed) held-names few-names (v .heap-size) (v .fits) constants linked known)
     where
       go : (d : Exp) → u ≡ d → values.Outcome code f (namesFrom c) h (c .used) (S .names) (v .values) (v .typed) held-names few-names (c .place) (apply (substOfEnv (envOf (S .names) (v .values))) e) → MeetsAs (outputMet code c h f q)
       go d i (inl (o, l)) =

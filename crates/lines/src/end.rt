@@ -35,7 +35,7 @@ fn class_at(c: Configuration, used: usize) -> Class
 
 // The output meets the wanted one.
 fn meet_output(
-    code: &[u16; 16388],
+    code: &[u16; 24582],
     heap: &mut [u16; 65535],
     frame: &mut [u16; 12360],
     q: &mut [u16; 4096],
@@ -65,7 +65,7 @@ fn ended_as(a: Added) -> Ended
 
 // "Failure or contradiction gives no line".
 pub fn meet_end(
-    code: &[u16; 16388],
+    code: &[u16; 24582],
     heap: &mut [u16; 65535],
     frame: &mut [u16; 12360],
     q: &mut [u16; 4096],

@@ -27,7 +27,7 @@ use Rattle.syntax.proofs.ProgramRead.{ProgramStored}
 use Rattle.linking.specs.Linking.{programLinked}
 use Rattle.linking.specs.Linked.{ProgramLinked}
 use Rattle.linking.proofs.TokenLaws.{TokensIn}
-use Rattle.linking.proofs.ProgramLaws.{bodiesOf, program-linked}
+use Rattle.linking.proofs.ProgramLaws.{bodiesOf, program-linked, program-kept}
 
 module _ (key : ℕ → ℕ) where
   close-most : (f d i : ℕ) → closeFrom key f d i ≤ i + f
@@ -116,7 +116,10 @@ module _ (text : List ℕ) (s : State) (p : SProg) (h : ProgramStored text s p) 
             let c : cellOf (pastAt (λ j. tok j .key) (s .i) i) ≡ pastAt (λ j. tok j .key) (s .i) i = omega arith in
             ends-at (keyAt (s .marks) (s .i)) (s .i) (s .i) 0 i cells (omega arith) (omega arith) (omega arith) ∙ ap cellOf e ∙ c
 
-    pub accepted-linked : (code : List ℕ) → length code ≡ 16388 →
+    below : (m : ℕ) → getD (table .heads) m 0 < s .i → cellOf (getD (table .heads) m 0) ≡ getD (table .heads) m 0
+    below m l = let q = h .most in omega arith
+
+    pub accepted-linked : (code : List ℕ) → length code ≡ 24582 →
         ProgramLinked (prog p) (bodiesOf (s .marks) stands) (programLinked (s .marks) (s .nums) closing stands (table .count) code)
     accepted-linked code z =
         let o = stored-order (s .marks) (s .nums) (s .ats) (s .i) p (h .holds) in
@@ -124,6 +127,13 @@ module _ (text : List ℕ) (s : State) (p : SProg) (h : ProgramStored text s p) 
         let f = stored-few (s .marks) (s .nums) (s .ats) (s .i) p (h .holds) in
         program-linked tokens-in (table .count) code
         (same-heads o (λ m a b. heads-at (table .heads) (table .count) 0 m heads (omega arith) (omega arith) (omega arith) ∙ below m (head-below o m a b))) c f z
-      where
-        below : (m : ℕ) → getD (table .heads) m 0 < s .i → cellOf (getD (table .heads) m 0) ≡ getD (table .heads) m 0
-        below m l = let q = h .most in omega arith
+
+    -- .. and the cells behind the tokens are as they were
+    pub accepted-kept : (code : List ℕ) → length code ≡ 24582 →
+        (let g = programLinked (s .marks) (s .nums) closing stands (table .count) code in (length g ≡ 24582) × ((m : ℕ) → 16388 ≤ m → getD g m 0 ≡ getD code m 0))
+    accepted-kept code z =
+        let o = stored-order (s .marks) (s .nums) (s .ats) (s .i) p (h .holds) in
+        let c = stored-count (s .marks) (s .nums) (s .ats) (s .i) p (h .holds) in
+        let f = stored-few (s .marks) (s .nums) (s .ats) (s .i) p (h .holds) in
+        program-kept tokens-in (table .count) code
+        (same-heads o (λ m a b. heads-at (table .heads) (table .count) 0 m heads (omega arith) (omega arith) (omega arith) ∙ below m (head-below o m a b))) c f z

@@ -21,6 +21,7 @@ pub record Wrote (a b : ℕ) (code g : List ℕ) : Type 0 where
   pub long : length g ≡ length code
   pub before : (j : ℕ) → j < a → linkAt g j ≡ linkAt code j
   pub behind : (j : ℕ) → b ≤ j → linkAt g j ≡ linkAt code j
+  pub beyond : (j : ℕ) → 16388 ≤ j → getD g j 0 ≡ getD code j 0
 
 abbrev one : List ℕ → ℕ → Link → List ℕ
 one code i l = set code (4 * i) (l .mark)
@@ -55,6 +56,14 @@ long-four code i l = length-set (three code i l) (4 * i + 3) (l .past) ∙ long-
 same-four : (m n o p q r s t : ℕ) → m ≡ q → n ≡ r → o ≡ s → p ≡ t → link m n o p ≡ link q r s t
 same-four m n o p q r s t a b c d = rw (a, b, c, d)
 
+with-beyond : (i : ℕ) (l : Link) (code : List ℕ) (j : ℕ) → 16388 ≤ j → getD (withLink i l code) j 0 ≡ getD code j 0
+unfolding withLink
+with-beyond i l code j m = go (ltb i 4097) refl
+  where
+    go : (b : Bool) → ltb i 4097 ≡ b → getD (cond b (four code i l) code) j 0 ≡ getD code j 0
+    go true e = let n = ltb-true i 4097 e in apart code i l j (λ z. omega arith) (λ z. omega arith) (λ z. omega arith) (λ z. omega arith)
+    go false e = refl
+
 pub with-long : (i : ℕ) (l : Link) (code : List ℕ) → length (withLink i l code) ≡ length code
 unfolding withLink
 with-long i l code = go (ltb i 4097)
@@ -78,7 +87,7 @@ with-other i j l code f = go (ltb i 4097)
         (apart code i l (4 * j + 2) (λ e. f (omega arith)) (λ e. f (omega arith)) (λ e. f (omega arith)) (λ e. f (omega arith)))
         (apart code i l (4 * j + 3) (λ e. f (omega arith)) (λ e. f (omega arith)) (λ e. f (omega arith)) (λ e. f (omega arith))))
 
-pub with-same : (i : ℕ) (l : Link) (code : List ℕ) → i < 4097 → length code ≡ 16388 → linkAt (withLink i l code) i ≡ l
+pub with-same : (i : ℕ) (l : Link) (code : List ℕ) → i < 4097 → length code ≡ 24582 → linkAt (withLink i l code) i ≡ l
 unfolding withLink linkAt
 with-same i l code m e =
     let e1 = long-one code i l in let e2 = long-two code i l in let e3 = long-three code i l in
@@ -99,16 +108,17 @@ with-wrote i l code = record {
   long = with-long i l code;
   before = λ j m. with-other i j l code (λ e. omega arith);
   behind = λ j m. with-other i j l code (λ e. omega arith);
+  beyond = λ j m. with-beyond i l code j m;
 }
 
 pub wrote-none : (a b : ℕ) (code : List ℕ) → Wrote a b code code
-wrote-none a b code = record { long = refl; before = λ j m. refl; behind = λ j m. refl }
+wrote-none a b code = record { long = refl; before = λ j m. refl; behind = λ j m. refl; beyond = λ j m. refl }
 
 pub wider : {a b c d : ℕ} {code g : List ℕ} → Wrote c d code g → a ≤ c → d ≤ b → Wrote a b code g
-wider w p q = record { long = w .long; before = λ j m. w .before j (omega arith); behind = λ j m. w .behind j (omega arith) }
+wider w p q = record { long = w .long; before = λ j m. w .before j (omega arith); behind = λ j m. w .behind j (omega arith); beyond = w .beyond }
 
 pub wrote-then : {a b : ℕ} {code g h : List ℕ} → Wrote a b code g → Wrote a b g h → Wrote a b code h
-wrote-then v w = record { long = w .long ∙ v .long; before = λ j m. w .before j m ∙ v .before j m; behind = λ j m. w .behind j m ∙ v .behind j m }
+wrote-then v w = record { long = w .long ∙ v .long; before = λ j m. w .before j m ∙ v .before j m; behind = λ j m. w .behind j m ∙ v .behind j m; beyond = λ j m. w .beyond j m ∙ v .beyond j m }
 
 module _ (marks nums ends names : List ℕ) (used : ℕ) where
   abbrev ranged : ℕ → ℕ → List ℕ → List ℕ
@@ -121,14 +131,14 @@ module _ (marks nums ends names : List ℕ) (used : ℕ) where
       wrote-then (wider (with-wrote i (tokenLink marks nums ends names used i) code) (omega arith) (omega arith))
       (wider (range-wrote left (i + 1) (withLink i (tokenLink marks nums ends names used i) code)) (omega arith) (omega arith))
 
-  pub range-at : (left i : ℕ) (code : List ℕ) → i + left ≤ 4097 → length code ≡ 16388 → (j : ℕ) → i ≤ j → j < i + left → linkAt (ranged left i code) j ≡ tokenLink marks nums ends names used j
+  pub range-at : (left i : ℕ) (code : List ℕ) → i + left ≤ 4097 → length code ≡ 24582 → (j : ℕ) → i ≤ j → j < i + left → linkAt (ranged left i code) j ≡ tokenLink marks nums ends names used j
   unfolding rangeLinked
   range-at zero i code r e j a b = let z : ⊥ = omega arith in absurd z
   range-at (suc left) i code r e j a b =
       let l = tokenLink marks nums ends names used i in
       first-or-later i j left l code r e a b (λ m. range-at left (i + 1) (withLink i l code) (omega arith) (with-long i l code ∙ e) j (omega arith) (omega arith)) refl
     where
-      first-or-later : (i j left : ℕ) (l : Link) (code : List ℕ) → i + suc left ≤ 4097 → length code ≡ 16388 → i ≤ j → j < i + suc left →
+      first-or-later : (i j left : ℕ) (l : Link) (code : List ℕ) → i + suc left ≤ 4097 → length code ≡ 24582 → i ≤ j → j < i + suc left →
           (i < j → linkAt (ranged left (i + 1) (withLink i l code)) j ≡ tokenLink marks nums ends names used j) → l ≡ tokenLink marks nums ends names used i →
           linkAt (ranged left (i + 1) (withLink i l code)) j ≡ tokenLink marks nums ends names used j
       first-or-later i j left l code r e a b later is = go (ltb i j) refl

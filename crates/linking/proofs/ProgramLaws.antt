@@ -46,7 +46,7 @@ module _ {tok : ℕ → Token} {n : ℕ} {marks nums ends : List ℕ} (t : Token
       wrote : Wrote i k code (w .code)
       reach : Names tok n (w .names) (w .used) m sc
 
-    params-linked : {i : ℕ} {xs : List SParam} {k : ℕ} (used m : ℕ) (sc : List Param) (names code : List ℕ) → ParamsAt tok n i xs k → Names tok n names used (length (params xs) + m) sc → length code ≡ 16388 →
+    params-linked : {i : ℕ} {xs : List SParam} {k : ℕ} (used m : ℕ) (sc : List Param) (names code : List ℕ) → ParamsAt tok n i xs k → Names tok n names used (length (params xs) + m) sc → length code ≡ 24582 →
         ParamsLinked code m i k (reach sc (params xs)) (parametersLinked marks nums (length (params xs)) i used names code)
     unfolding parametersLinked
     params-linked {i} {xs} {k} used m sc names code (at.ParamsAt.noneAt x) h e = record { wrote = wrote-none i i code; reach = names-less (omega arith) h }
@@ -73,7 +73,7 @@ module _ {tok : ℕ → Token} {n : ℕ} {marks nums ends : List ℕ} (t : Token
       within : last ≤ k
       size : length (r .names) ≡ 144
 
-    definition-linked : {i : ℕ} {d : SDef} {k : ℕ} → Calls marks nums heads count fs p bodies → DefAt tok n i d k → (s : Linked) → length (s .names) ≡ 144 → length (s .code) ≡ 16388 →
+    definition-linked : {i : ℕ} {d : SDef} {k : ℕ} → Calls marks nums heads count fs p bodies → DefAt tok n i d k → (s : Linked) → length (s .names) ≡ 144 → length (s .code) ≡ 24582 →
         DefLinked s i (on (closingAt marks (on (i + 2) 2)) 1) k d (definitionLinked marks nums ends heads count (i + 2) s)
     unfolding definitionLinked
     definition-linked {i} c (defineAt {j = j} {k = k} {xs = xs} {t = u} o w f b x few s′ e) s z1 z2 =
@@ -167,11 +167,13 @@ module _ {tok : ℕ → Token} {n : ℕ} {marks nums ends : List ℕ} (t : Token
   record DefsLinked (p : Prog) (bodies : ℕ → ℕ) (fs : List ℕ) (s : Linked) (j a : ℕ) (ds : List SDef) (r : Linked) : Type 0 where
     stand : BodiesLinked p bodies (r .code) j (progOf fs ds)
     kept : (m : ℕ) → m < a → linkAt (r .code) m ≡ linkAt (s .code) m
+    long : length (r .code) ≡ length (s .code)
+    beyond : (m : ℕ) → 16388 ≤ m → getD (r .code) m 0 ≡ getD (s .code) m 0
 
   defs-linked : {heads : List ℕ} {j a b′ : ℕ} {ds : List SDef} (count : ℕ) (fs : List ℕ) (p : Prog) → Calls marks nums heads count fs p (bodiesOf marks heads) → DefsFrom tok n heads j a ds b′ →
-      (s : Linked) → length (s .names) ≡ 144 → length (s .code) ≡ 16388 → DefsLinked p (bodiesOf marks heads) fs s j a ds (definitionsLinked marks nums ends heads count (length ds) j s)
+      (s : Linked) → length (s .names) ≡ 144 → length (s .code) ≡ 24582 → DefsLinked p (bodiesOf marks heads) fs s j a ds (definitionsLinked marks nums ends heads count (length ds) j s)
   unfolding definitionsLinked
-  defs-linked count fs p c (noneFrom q) s z1 z2 = record { stand = noBodies; kept = λ m l. refl }
+  defs-linked count fs p c (noneFrom q) s z1 z2 = record { stand = noBodies; kept = λ m l. refl; long = refl; beyond = λ m l. refl }
   defs-linked {heads} {j} {a} count fs p c (moreFrom {i = i} {k = k} {d = d} {ds = ds} b x h more) s z1 z2 =
       let r1 = definition-linked t heads count fs p (bodiesOf marks heads) c x s z1 z2 in
       let s1 = definitionLinked marks nums ends heads count (i + 2) s in
@@ -182,15 +184,25 @@ module _ {tok : ℕ → Token} {n : ℕ} {marks nums ends : List ℕ} (t : Token
       subst (λ (u : ℕ). DefsLinked p (bodiesOf marks heads) fs s j a (d ∷ ds) (definitionsLinked marks nums ends heads count (length ds) (j + 1) (definitionLinked marks nums ends heads count u s))) (inv h) (record {
         stand = moreBodies (subst (λ (u : ℕ). TermLinked p (bodiesOf marks heads) (definitionsLinked marks nums ends heads count (length ds) (j + 1) s1 .code) (reach [] (params (d .params))) u (term fs (d .body)) (r1 .last)) (inv e) tm) (r2 .stand);
         kept = λ m l. r2 .kept m (omega arith) ∙ r1 .wrote .before m (omega arith);
+        long = r2 .long ∙ r1 .wrote .long;
+        beyond = λ m l. r2 .beyond m l ∙ r1 .wrote .beyond m l;
       })
     where
       def-goes-on : {i : ℕ} {d : SDef} {k : ℕ} → DefAt tok n i d k → i < k
       def-goes-on (defineAt o w f q x few s e) = let y = params-count x .0 in let z = term-bounds tok n s .0 in omega arith
 
   -- "program: one or more of `(define F [x ..] t)`": all of them linked, by where their bodies start
-  pub program-linked : {heads : List ℕ} {ds : List SDef} {b′ : ℕ} (count : ℕ) (code : List ℕ) → DefsFrom tok n heads 0 0 ds b′ → count ≡ length ds → length ds ≤ 64 → length code ≡ 16388 →
+  pub program-linked : {heads : List ℕ} {ds : List SDef} {b′ : ℕ} (count : ℕ) (code : List ℕ) → DefsFrom tok n heads 0 0 ds b′ → count ≡ length ds → length ds ≤ 64 → length code ≡ 24582 →
       ProgramLinked (progOf (functions ds) ds) (bodiesOf marks heads) (programLinked marks nums ends heads count code)
   program-linked {heads} {ds} count code h c few z =
       let m : min count 64 ≡ length ds = omega arith in
       let r = defs-linked count (functions ds) (progOf (functions ds) ds) (calls-known count h c few) h (linked (replicate 144 0) code) (length-replicate {A = ℕ} 144 0) z in
       subst (λ (k : ℕ). ProgramLinked (progOf (functions ds) ds) (bodiesOf marks heads) (definitionsLinked marks nums ends heads count k 0 (linked (replicate 144 0) code) .code)) (inv m) (r .stand)
+
+  -- .. in cells that are as many as before, and nothing behind them changes
+  pub program-kept : {heads : List ℕ} {ds : List SDef} {b′ : ℕ} (count : ℕ) (code : List ℕ) → DefsFrom tok n heads 0 0 ds b′ → count ≡ length ds → length ds ≤ 64 → length code ≡ 24582 →
+      (let g = programLinked marks nums ends heads count code in (length g ≡ 24582) × ((m : ℕ) → 16388 ≤ m → getD g m 0 ≡ getD code m 0))
+  program-kept {heads} {ds} count code h c few z =
+      let m : min count 64 ≡ length ds = omega arith in
+      let r = defs-linked count (functions ds) (progOf (functions ds) ds) (calls-known count h c few) h (linked (replicate 144 0) code) (length-replicate {A = ℕ} 144 0) z in
+      subst (λ (k : ℕ). let g = definitionsLinked marks nums ends heads count k 0 (linked (replicate 144 0) code) .code in (length g ≡ 24582) × ((m : ℕ) → 16388 ≤ m → getD g m 0 ≡ getD code m 0)) (inv m) (r .long ∙ z, r .beyond)

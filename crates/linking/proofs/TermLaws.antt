@@ -43,7 +43,7 @@ module _ {tok : ℕ → Token} {n : ℕ} {marks nums ends : List ℕ} (t : Token
 
   -- what linking does with a term, whatever names are in reach
   abbrev Law : ℕ → ℕ → Term → ℕ → Type 0
-  Law room i u k = (used : ℕ) (sc : List Param) (s : Linked) → Names tok n (s .names) used (room + room) sc → length (s .code) ≡ 16388 →
+  Law room i u k = (used : ℕ) (sc : List Param) (s : Linked) → Names tok n (s .names) used (room + room) sc → length (s .code) ≡ 24582 →
       LinkedTo tok n p bodies sc i u k used (room + room) s (again room used i s)
 
   if-form : (i : ℕ) → WordAt tok n "(" i → WordAt tok n "if" (i + 1) → formOf marks i ≡ 7

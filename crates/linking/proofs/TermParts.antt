@@ -59,7 +59,7 @@ module _ {tok : ℕ → Token} {n : ℕ} {marks nums ends : List ℕ} (t : Token
   exp-range {room = suc room} used s x = let f = exp-form x in rw (f .0, f .1)
 
   -- an expression as a term
-  pub result-linked : {room i : ℕ} {c : SExp} {k used m : ℕ} {sc : List Param} (s : Linked) → ExpAt tok n ofProgram room i c k → Names tok n (s .names) used m sc → length (s .code) ≡ 16388 →
+  pub result-linked : {room i : ℕ} {c : SExp} {k used m : ℕ} {sc : List Param} (s : Linked) → ExpAt tok n ofProgram room i c k → Names tok n (s .names) used m sc → length (s .code) ≡ 24582 →
       LinkedTo tok n p bodies sc i (result (exp c)) k used m s (termLinked marks nums ends heads count room used i s)
   result-linked {i = i} {c} {k} {used} s x h e =
       let l = exp-least x in let m = exp-most x in let f = t .few in let b : i < n = omega arith in
@@ -87,7 +87,7 @@ module _ {tok : ℕ → Token} {n : ℕ} {marks nums ends : List ℕ} (t : Token
 
   pub call-linked : {room i k used m : ℕ} {cs : List SExp} {sc : List Param} (s : Linked) → Calls marks nums heads count fs p bodies →
       WordAt tok n "(" i → WordAt tok n "call" (i + 1) → NameAt tok n tokens.plain (i + 2) → WordAt tok n "[" (i + 3) → ExpsAt tok n ofProgram "]" room (i + 4) cs k → WordAt tok n ")" (k + 1) →
-      Names tok n (s .names) used m sc → length (s .code) ≡ 16388 →
+      Names tok n (s .names) used m sc → length (s .code) ≡ 24582 →
       LinkedTo tok n p bodies sc i (call (placeOf (tok (i + 2) .num) fs) (exps cs)) (k + 2) used m s (termLinked marks nums ends heads count (suc room) used i s)
   unfolding termLinked
   call-linked {room} {i} {k} {used} s d o w f b x c h e =
@@ -110,7 +110,7 @@ module _ {tok : ℕ → Token} {n : ℕ} {marks nums ends : List ℕ} (t : Token
     pub wrote : Wrote i (i + 1) code (w .code)
     pub reach : Names tok n (w .names) (w .used) m (withName x sc)
 
-  pub name-linked : {names code : List ℕ} {used m i : ℕ} {sc : List Param} {x : Param} → Names tok n names used (suc m) sc → IsName tok n i x → i < n → length code ≡ 16388 →
+  pub name-linked : {names code : List ℕ} {used m i : ℕ} {sc : List Param} {x : Param} → Names tok n names used (suc m) sc → IsName tok n i x → i < n → length code ≡ 24582 →
       NameLinked names code used m i sc x (boundLink marks nums used i names code)
   unfolding boundLink
   name-linked {names} {code} {used} {m} {i} {sc} {x} h is l e =

@@ -37,7 +37,7 @@ pub struct Link {
 }
 
 // The token i; nothing past the last one.
-pub fn link_at(code: &[u16; 16388], i: usize) -> Link
+pub fn link_at(code: &[u16; 24582], i: usize) -> Link
     ensures { λ r. ⌜ r ≡ linkAt (now (code .entry)) i ⌝ }
 {
     if i < TOKENS {
@@ -57,7 +57,7 @@ pub fn link_at(code: &[u16; 16388], i: usize) -> Link
 }
 
 // The token i set, where there is one.
-pub(crate) fn set_link(code: &mut [u16; 16388], i: usize, l: Link)
+pub(crate) fn set_link(code: &mut [u16; 24582], i: usize, l: Link)
     ensures { λ _. ⌜ now (code .exit) ≡ withLink i l (now (code .entry)) ⌝ }
 {
     if i < TOKENS {

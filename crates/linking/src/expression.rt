@@ -65,7 +65,7 @@ pub(crate) fn link_range(
     ends: &[u16],
     names: &[usize; 144],
     used: usize,
-    code: &mut [u16; 16388],
+    code: &mut [u16; 24582],
     from: usize,
     to: usize,
 )

@@ -66,7 +66,7 @@ pub(crate) fn link_name(
     nums: &[u16],
     names: &mut [usize; 144],
     used: usize,
-    code: &mut [u16; 16388],
+    code: &mut [u16; 24582],
     i: usize,
 ) -> usize
     ensures { λ r. ⌜ linksLeft r (now (names .exit)) (now (code .exit)) ≡ boundLink (now (marks .entry)) (now (nums .entry)) used i (now (names .entry)) (now (code .entry)) ⌝ }

@@ -15,7 +15,7 @@ fn link_parameters(
     marks: &[u16],
     nums: &[u16],
     names: &mut [usize; 144],
-    code: &mut [u16; 16388],
+    code: &mut [u16; 24582],
     p: usize,
     to: usize,
 ) -> usize
@@ -38,7 +38,7 @@ fn link_definition(
     heads: &[u16; 64],
     count: usize,
     names: &mut [usize; 144],
-    code: &mut [u16; 16388],
+    code: &mut [u16; 24582],
     h: usize,
 )
     ensures { λ _. ⌜ linked (now (names .exit)) (now (code .exit)) ≡ definitionLinked (now (marks .entry)) (now (nums .entry)) (now (ends .entry)) (now (heads .entry)) count h (linked (now (names .entry)) (now (code .entry))) ⌝ }
@@ -70,7 +70,7 @@ pub fn link_program(
     ends: &[u16],
     heads: &[u16; 64],
     count: usize,
-    code: &mut [u16; 16388],
+    code: &mut [u16; 24582],
 )
     ensures { λ _. ⌜ now (code .exit) ≡ programLinked (now (marks .entry)) (now (nums .entry)) (now (ends .entry)) (now (heads .entry)) count (now (code .entry)) ⌝ }
 {

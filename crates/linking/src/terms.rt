@@ -113,7 +113,7 @@ fn true_names(
     nums: &[u16],
     names: &mut [usize; 144],
     used: usize,
-    code: &mut [u16; 16388],
+    code: &mut [u16; 24582],
     mark: u16,
     h: usize,
 ) -> usize
@@ -132,7 +132,7 @@ fn false_names(
     nums: &[u16],
     names: &mut [usize; 144],
     used: usize,
-    code: &mut [u16; 16388],
+    code: &mut [u16; 24582],
     mark: u16,
     h: usize,
 ) -> usize
@@ -152,7 +152,7 @@ fn link_if(
     heads: &[u16; 64],
     count: usize,
     names: &mut [usize; 144],
-    code: &mut [u16; 16388],
+    code: &mut [u16; 24582],
     reach: Reach,
     i: usize,
 )
@@ -189,7 +189,7 @@ pub(crate) fn link_term(
     heads: &[u16; 64],
     count: usize,
     names: &mut [usize; 144],
-    code: &mut [u16; 16388],
+    code: &mut [u16; 24582],
     reach: Reach,
     i: usize,
 )

@@ -56,7 +56,7 @@ fn test_range(heap: &[u16; 65535], from: usize, to: usize, used: usize) -> Teste
 
 // What the `cons?` at the configuration's place tests: its expression begins four tokens on.
 pub fn look(
-    code: &[u16; 16388],
+    code: &[u16; 24582],
     heap: &mut [u16; 65535],
     frame: &[u16; 12360],
     c: Configuration,

@@ -12,7 +12,7 @@ ghost use Rattle.heap.specs.Entries.{pushAnswer};
 ghost use Rattle.looking.specs.Taking.{namesAt, placedAs, partsBound, atomBound, placedWith, taken, pairTaken, atomTaken};
 
 // The token of the first name of the `cons?`: the names stand behind what is tested.
-fn names_at(code: &[u16; 16388], c: Configuration) -> usize
+fn names_at(code: &[u16; 24582], c: Configuration) -> usize
     ensures { λ r. ⌜ (r ≡ namesAt (now (code .entry)) c) × (r ≤ 65535) ⌝ }
 {
     let i = cell::least(c.place, 4097) + 4;
@@ -44,7 +44,7 @@ pub fn placed(
 
 // "its head and tail are then bound to the two xe"
 pub fn bind_parts(
-    code: &[u16; 16388],
+    code: &[u16; 24582],
     frame: &mut [u16; 12360],
     c: Configuration,
     from: usize,
@@ -66,7 +66,7 @@ pub fn bind_parts(
 
 // "if not, the atom is bound to xa"
 pub fn bind_atom(
-    code: &[u16; 16388],
+    code: &[u16; 24582],
     frame: &mut [u16; 12360],
     c: Configuration,
     from: usize,
@@ -91,7 +91,7 @@ fn placed_with(c: Configuration, used: usize, place: usize, p: Pushed) -> Moved
 
 // The true branch on a pair with these parts.
 pub fn take_pair(
-    code: &[u16; 16388],
+    code: &[u16; 24582],
     frame: &mut [u16; 12360],
     c: Configuration,
     from: usize,
@@ -109,7 +109,7 @@ pub fn take_pair(
 
 // The false branch on an atom.
 pub fn take_atom(
-    code: &[u16; 16388],
+    code: &[u16; 24582],
     frame: &mut [u16; 12360],
     c: Configuration,
     from: usize,

@@ -25,6 +25,7 @@ use Rattle.heap.specs.declared.configuration.Configuration.{Configuration as In
 use Rattle.heap.specs.declared.configuration.Moved.the-variants.{Over}
 use Rattle.runs.proofs.RunLaws.{Below}
 use Rattle.linking.specs.Linked.{TermLinked}
+use Rattle.constants.proofs.ConstantLaws.{Constants}
 use Rattle.values.proofs.ValueLaws.{Known}
 use Rattle.values.proofs.StateLaws.{isNone, HoldsPair, known-in-scope, Stands, Arrives, Leads, none-leads}
 use Rattle.values.proofs.ContractionLaws.{few-entries}
@@ -107,9 +108,9 @@ module _ {p : Prog} {bodies : ℕ → ℕ} {code h f q : List ℕ} {names : List
       })
 
   -- THE LAW of both branches, by where the parts of the `cons?` stand
-  pub test-leads : Known names e → Both (apply (substOfEnv (P .con .env)) e) (lookAt code c h f)
-  test-leads kn =
-      let w = look-means x (omega arith) T kn room in
+  pub test-leads : Constants code h (c .used) → Known names e → Both (apply (substOfEnv (P .con .env)) e) (lookAt code c h f)
+  test-leads constants kn =
+      let w = look-means x (omega arith) T constants kn room in
       by-kind (apply (substOfEnv (P .con .env)) e) (lookAt code c h f .answer) (lookAt code c h f .heap) (w .same) (w .size) (w .is)
 
 -- what a `cons?` of an accepted program asks: its expression is in scope, its two `e.` names are different
@@ -119,7 +120,7 @@ names-apart {p} {σ} {e} {m} {k} {n} {s} {u} w i =
     let f = and-four (inScope sc e) (not (eqb m k)) (wellFormedTerm p (pairScope m k sc) s) (wellFormedTerm p (withA n sc) u) (w .wellFormed) .1 in
     false≢true (inv (ap not (eq-eqb m k i)) ∙ f)
 
-module _ {p : Prog} {bodies : ℕ → ℕ} {code h f q : List ℕ} {c : InCells} {K : Configuration} (x : Stands p bodies code h f q c K) (fits : nodesState (K .cr) ≤ 4097) (room : c .used + 8192 ≤ 65535)
+module _ {p : Prog} {bodies : ℕ → ℕ} {code h f q : List ℕ} {c : InCells} {K : Configuration} (x : Stands p bodies code h f q c K) (constants : Constants code h (c .used)) (fits : nodesState (K .cr) ≤ 4097) (room : c .used + 8192 ≤ 65535)
     (coded : K .fresh ≤ 16381) (scoped : WellScoped p (K .term) (K .cr .con .env)) {e : Exp} {m k n : ℕ} {s u : Term} (is : K .term ≡ conditional (consp e m k n) s u) where
   abbrev looked : LookLeft
   looked = lookAt code c h f
@@ -144,12 +145,12 @@ module _ {p : Prog} {bodies : ℕ → ℕ} {code h f q : List ℕ} {c : InCells}
 
   -- what is tested
   pub stands-look : Looks h (c .used) (apply (substOfEnv (K .cr .con .env)) e) looked
-  stands-look = look-means (x .holds) (omega (arith, few-entries (x .holds) fits)) tested-at known room
+  stands-look = look-means (x .holds) (omega (arith, few-entries (x .holds) fits)) tested-at constants known room
 
   -- THE LAW of both branches
   pub consp-lead : BothLead p bodies code h (c .used) (successorsOf p (K .cr) (K .term) (K .fresh)) (looked .answer) yesLeft noLeft
   unfolding successorsOf
-  consp-lead = rw is (test-leads c tested-at (x .holds) (few-entries (x .holds) fits) room (K .fresh) (x .fresh) coded (names-apart scoped-here) known)
+  consp-lead = rw is (test-leads c tested-at (x .holds) (few-entries (x .holds) fits) room (K .fresh) (x .fresh) coded (names-apart scoped-here) constants known)
 
   module _ {a b : Option Configuration} (two : successorsOf p (K .cr) (K .term) (K .fresh) ≡ branches a b) where
     same-to : (w : BothLead p bodies code h (c .used) (successorsOf p (K .cr) (K .term) (K .fresh)) (looked .answer) yesLeft noLeft) → (w .yes-to ≡ a) × (w .no-to ≡ b)

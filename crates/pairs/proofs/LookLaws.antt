@@ -28,6 +28,8 @@ use Rattle.linking.specs.Code.{link, linkAt}
 use Rattle.linking.specs.Linked.{placeIn, withName, ExpLinked, TermLinked, testLinked}
 use Rattle.linking.specs.declared.code.Link.{Link}
 use Rattle.linking.specs.Places.{envOf}
+use Rattle.constants.proofs.ConstantLaws.{Constants}
+use Rattle.constants.specs.Table.{constantAt}
 use Rattle.values.specs.Values.{onwardFill, tokenWritten, tokensWritten, ValueLeft, valueAt}
 use Rattle.values.proofs.ValueLaws.{Known}
 use Rattle.values.proofs.ArgumentLaws.{past-linked}
@@ -87,7 +89,8 @@ module _ (code f : List ℕ) (base : ℕ) where
   unfolding valueAt
   value-grows used i h =
       let w = tokens-grow (linkAt code i .past - i) used i used h (omega arith) in
-      go (eqb (linkAt code i .mark) 2) _ _ (record { same = below-self; size = refl }) (record { same = w .same; size = w .size })
+      go (eqb (linkAt code i .mark) 2) _ _ (record { same = below-self; size = refl })
+      (go (ltb (constantAt code i .from) (constantAt code i .to)) _ _ (record { same = below-self; size = refl }) (record { same = w .same; size = w .size }))
     where
       go : (b : Bool) (u v : ValueLeft) → Kept used h u → Kept used h v → Kept used h (cond b u v)
       go true u v x y = x
@@ -200,10 +203,10 @@ module _ {p : Prog} {bodies : ℕ → ℕ} {code h f q : List ℕ} {c : Configur
   look-is = rw (test-from c T)
 
   -- THE LAW of what is tested
-  pub look-means : Known names e → c .used + 8192 ≤ 65535 → Looks h (c .used) (apply (substOfEnv (P .con .env)) e) (lookAt code c h f)
-  look-means kn room =
+  pub look-means : Constants code h (c .used) → Known names e → c .used + 8192 ≤ 65535 → Looks h (c .used) (apply (substOfEnv (P .con .env)) e) (lookAt code c h f)
+  look-means constants kn room =
       let b : namesFrom c + length (x .values) ≤ 4120 = omega (arith, entries-are x few) in
-      let o = value-outcome code f (namesFrom c) h (c .used) names (x .values) (x .typed) (names-held x few) b (x .heap-size) (x .fits) (T .tested) kn in
+      let o = value-outcome code f (namesFrom c) h (c .used) names (x .values) (x .typed) (names-held x few) b (x .heap-size) (x .fits) constants (T .tested) kn in
       let z = value-grows code f (namesFrom c) (c .used) (c .place + 4) h in
       rw (look-is, x .env) (record { same = z .same; size = z .size ∙ x .heap-size; is = go b (apply (substOfEnv (envOf names (x .values))) e) o })
     where

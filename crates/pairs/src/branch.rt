@@ -46,7 +46,7 @@ pub fn branches_of(t: Tested) -> Branches
 
 // The true branch. Of an atom there is none.
 pub fn take_true(
-    code: &[u16; 16388],
+    code: &[u16; 24582],
     heap: &mut [u16; 65535],
     frame: &mut [u16; 12360],
     c: Configuration,
@@ -73,7 +73,7 @@ pub fn take_true(
 
 // The false branch. Of a pair there is none.
 pub fn take_false(
-    code: &[u16; 16388],
+    code: &[u16; 24582],
     heap: &mut [u16; 65535],
     frame: &mut [u16; 12360],
     c: Configuration,

@@ -65,7 +65,7 @@ fn bound_contracted(
 
 // The pair of two variables in the place of x.
 fn make_pair(
-    code: &[u16; 16388],
+    code: &[u16; 24582],
     heap: &mut [u16; 65535],
     frame: &mut [u16; 12360],
     c: Configuration,
@@ -89,7 +89,7 @@ fn make_pair(
 
 // The `?a` in the place of x.
 fn make_atom(
-    code: &[u16; 16388],
+    code: &[u16; 24582],
     heap: &mut [u16; 65535],
     frame: &mut [u16; 12360],
     c: Configuration,
@@ -112,7 +112,7 @@ fn make_atom(
 
 // The true branch on the `?e` x.
 pub fn split_pair(
-    code: &[u16; 16388],
+    code: &[u16; 24582],
     heap: &mut [u16; 65535],
     frame: &mut [u16; 12360],
     c: Configuration,
@@ -135,7 +135,7 @@ pub fn split_pair(
 
 // The false branch on the `?e` x.
 pub fn split_atom(
-    code: &[u16; 16388],
+    code: &[u16; 24582],
     heap: &mut [u16; 65535],
     frame: &mut [u16; 12360],
     c: Configuration,

@@ -25,6 +25,7 @@ use Rattle.saving.specs.declared.head.Node.{Node as Saved}
 use Rattle.saving.proofs.HoldingLaws.{fit-last, load-frame, load-sides}
 use Rattle.saving.proofs.BackLaws.{record-held, record-front}
 use Rattle.linking.specs.Linked.{TermLinked}
+use Rattle.constants.proofs.ConstantLaws.{Constants, constants-below}
 use Rattle.values.proofs.StateLaws.{trees, HoldsPair, Stands}
 use Rattle.values.proofs.PairLaws.{state-nodes, entries-few}
 use Rattle.trails.proofs.ReachLaws.{Decides}
@@ -67,13 +68,14 @@ module _ (p : Prog) (bodies : ℕ → ℕ) (code : List ℕ) where
     pub frame : List ℕ
     pub q : List ℕ
     pub stands : Stands p bodies code h frame q (r .at) (y .conf)
+    pub constants : Constants code h (r .at .used)
     pub entries : r .entries ≡ take (3 * r .at .entries) frame
     pub sides : r .sides ≡ take (2 * r .at .neqs) q
     pub steps : r .steps ≡ y .steps
     pub room : r .at .used ≤ 40959
 
   pub recorded-below : {h g : List ℕ} {r : Record} {y : Node} → Recorded h r y → Below (r .at .used) g h → length g ≡ 65535 → Recorded g r y
-  recorded-below x b l = record { frame = x .frame; q = x .q; stands = stands-below (x .stands) b l; entries = x .entries; sides = x .sides; steps = x .steps; room = x .room }
+  recorded-below x b l = record { frame = x .frame; q = x .q; stands = stands-below (x .stands) b l; constants = constants-below (x .constants) b (omega arith); entries = x .entries; sides = x .sides; steps = x .steps; room = x .room }
 
   -- brought back, it is held
   pub loaded-stands : {h s : List ℕ} {top : ℕ} (rs : List Record) (r : Record) (y : Node) → Holding s top (rs ++ (r ∷ [])) → Recorded h r y → (f q : List ℕ) → length f ≡ 12360 → length q ≡ 4096 →
@@ -132,6 +134,12 @@ module _ (p : Prog) (bodies : ℕ → ℕ) (code : List ℕ) (K₀ : Configurati
   saves-below {h} {g} (keeps r m y e t d x z l s) b n =
       let c : Below (r .at .used) g h = record { same = λ j i. b .same j (omega arith) } in
       keeps r m y e t d (recorded-below p bodies code x c n) z l (saves-below s c n)
+
+  -- the constants lie below what is used
+  pub saves-constants : {h : List ℕ} {used : ℕ} {cs : List Choice} {qs : List Record} {r : Record} → Saves h used cs qs r → Constants code h used
+  saves-constants (only x l) = constants-below (x .constants) below-self l
+  saves-constants (passed s) = saves-constants s
+  saves-constants (keeps r m y e t d x z l s) = constants-below (x .constants) below-self l
 
   -- what the last record has in use
   pub saves-floor : {h : List ℕ} {used : ℕ} {cs : List Choice} {qs : List Record} {r : Record} → Saves h used cs qs r → (r .at .used ≤ used) × Saves h (r .at .used) cs qs r

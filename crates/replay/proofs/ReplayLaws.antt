@@ -26,6 +26,7 @@ use Rattle.saving.specs.Records.{Record, recordOf, recordCells, recordsCells, F
 use Rattle.saving.proofs.HoldingLaws.{records-one, records-more, records-snoc, load-means, load-holding, fit-last}
 use Rattle.saving.proofs.RecordLaws.{record-length}
 use Rattle.saving.proofs.SavedLaws.{SaveHeld, save-means}
+use Rattle.constants.proofs.ConstantLaws.{Constants}
 use Rattle.values.proofs.StateLaws.{trees, Stands, Arrives, Leads, nodes-length}
 use Rattle.values.proofs.PairLaws.{state-nodes, entries-few}
 use Rattle.tracing.specs.Asking.{askedAt, isCall, takenAs}
@@ -37,7 +38,7 @@ use Rattle.replay.specs.Positions.{movedFrom}
 use Rattle.replay.specs.Rooms.{RoomLeft, madeRoom}
 use Rattle.replay.specs.Replaying.{isThere, savedIf, ReplayLeft, replayLeft, steppedTo, followStep, onward, followFrom, keptTop, broughtBack}
 use Rattle.replay.specs.declared.position.Position.{Position}
-use Rattle.replay.proofs.RecordLaws.{Entered, Recorded, loaded-stands, Rooted, Saves, only, passed, keeps, saves-more, saves-below, saves-first, saves-take, Resumed, from-base, from-choice, resumed-latest}
+use Rattle.replay.proofs.RecordLaws.{Entered, Recorded, loaded-stands, Rooted, Saves, only, passed, keeps, saves-more, saves-below, saves-constants, saves-first, saves-take, Resumed, from-base, from-choice, resumed-latest}
 use Rattle.replay.proofs.RoomLaws.{Kept, At, room-made}
 
 module _ (p : Prog) (bodies : ℕ → ℕ) (code : List ℕ) (ok : Accepted p bodies code) (K₀ : Configuration) (N : ℕ) (most : N ≤ 1000) (y₁ : Node) (b₀ : Record)
@@ -59,11 +60,14 @@ module _ (p : Prog) (bodies : ℕ → ℕ) (code : List ℕ) (ok : Accepted p bo
     pub roomy : pos .node .at .used + 8192 ≤ 65535
     roomy = omega (arith, a .low)
 
+    pub at-constants : Constants code h (pos .node .at .used)
+    at-constants = saves-constants p bodies code K₀ N y₁ b₀ (a .kept .saves)
+
     abbrev pub Showing : Successors → Type 0
-    Showing S = Shows p bodies code ok (a .stands) small few-neqs (a .entered .sound .simple) (a .entered .sound .fresh) (a .entered .scoped) roomy S
+    Showing S = Shows p bodies code ok (a .stands) at-constants small few-neqs (a .entered .sound .simple) (a .entered .sound .fresh) (a .entered .scoped) roomy S
 
     pub showing : (S : Successors) → successors p (x .conf) ≡ S → Showing S
-    showing S e = subst Showing e (shows p bodies code ok (a .stands) small few-neqs (a .entered .sound .simple) (a .entered .sound .fresh) (a .entered .scoped) roomy)
+    showing S e = subst Showing e (shows p bodies code ok (a .stands) at-constants small few-neqs (a .entered .sound .simple) (a .entered .sound .fresh) (a .entered .scoped) roomy)
 
     -- kept by what is written behind it
     pub kept-later : {g s : List ℕ} {k top : ℕ} {ds : List Choice} → Kept p bodies code K₀ N y₁ b₀ h s (pos .node .at .used) top ds → Below (pos .node .at .used) g h → length g ≡ 65535 → pos .node .at .used ≤ k →
@@ -103,7 +107,7 @@ module _ (p : Prog) (bodies : ℕ → ℕ) (code : List ℕ) (ok : Accepted p bo
           }
 
       made-recorded : Recorded p bodies code h made x
-      made-recorded = record { frame = f; q = q; stands = a .stands; entries = refl; sides = refl; steps = a .steps; room = room }
+      made-recorded = record { frame = f; q = q; stands = a .stands; constants = at-constants; entries = refl; sides = refl; steps = a .steps; room = room }
 
       abbrev EitherHeld : SaveLeft → List Record → Type 0
       EitherHeld w rs = Holding (w .saved) (w .top) (rs ++ (made ∷ [])) ⊎ Holding (w .saved) (w .top) rs

@@ -20,7 +20,7 @@ ghost use Rattle.saving.specs.Saving.{saveLeft};
 ghost use Rattle.replay.specs.Replaying.{isThere, keptTop, savedIf, replayLeft, followStep, followFrom, broughtBack};
 
 // Whether the choice number `last` is to be made here.
-fn is_there(code: &[u16; 16388], n: Node, last: usize) -> bool
+fn is_there(code: &[u16; 24582], n: Node, last: usize) -> bool
     ensures { λ r. ⌜ r ≡ isThere (now (code .entry)) n last ⌝ }
 {
     let c = n.at;
@@ -50,7 +50,7 @@ pub fn save_if(
 
 // One transition of the path again.
 fn follow_step(
-    code: &[u16; 16388],
+    code: &[u16; 24582],
     heap: &mut [u16; 65535],
     frame: &mut [u16; 12360],
     q: &mut [u16; 4096],
@@ -76,7 +76,7 @@ fn follow_step(
 
 // At most `limit` of them, up to the choice number `last`.
 fn follow(
-    code: &[u16; 16388],
+    code: &[u16; 24582],
     heap: &mut [u16; 65535],
     frame: &mut [u16; 12360],
     q: &mut [u16; 4096],
@@ -112,7 +112,7 @@ fn kept_top(from: usize, top: usize, base: usize) -> usize
 
 // The configuration at which the choice number `last` of the path is made; `top` is that of the saved ones.
 pub fn bring_back(
-    code: &[u16; 16388],
+    code: &[u16; 24582],
     heap: &mut [u16; 65535],
     frame: &mut [u16; 12360],
     q: &mut [u16; 4096],

@@ -26,7 +26,7 @@ pub fn is_tight(used: usize, floor: usize) -> bool
     cell::least(floor, 65535) + 8192 < used
 }
 
-fn with_used(c: Configuration, used: usize) -> Configuration
+pub fn with_used(c: Configuration, used: usize) -> Configuration
     ensures { λ r. ⌜ r ≡ withUsed c used ⌝ }
 {
     Configuration {

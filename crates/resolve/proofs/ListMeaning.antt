@@ -33,7 +33,7 @@ use Rattle.language.specs.Program.{Prog}
 use Rattle.linking.specs.Linking.{programLinked}
 use Rattle.linking.specs.Linked.{ProgramLinked}
 use Rattle.linking.proofs.ProgramLaws.{bodiesOf}
-use Rattle.linking.proofs.Accepted.{accepted-linked}
+use Rattle.linking.proofs.Accepted.{accepted-linked, accepted-kept}
 use Rattle.initial.specs.Beginning.{mainBody, BegunLeft, begunAt}
 use Rattle.initial.specs.declared.begin.Begun.{Begun}
 use Rattle.initial.specs.declared.begin.Begun.the-variants.{Over as BegunOver}
@@ -68,12 +68,12 @@ pub list-left : (program job work d : List ℕ) {t u : Both} {marks nums ends he
 unfolding listTexts
 list-left program job work d {x = x} {b = b} {o = o} is f h = subst (λ (w : BothAnswer). ListOut o x b (listBehind d w)) (both-are {w = bothOver false program job work} is f) h
 
-pub walked-behind : (d marks nums ends heads jmarks jnums : List ℕ) (c : ℕ) (e : JobEnds) (k : Numerals) {x a b code : List ℕ} {body : ℕ} {r : Came} {o : Outcome} → code ≡ programLinked marks nums ends heads c (replicate 16388 0) → body ≡ mainBody marks heads → a ≡ zeros d →
+pub walked-behind : (d marks nums ends heads jmarks jnums : List ℕ) (c : ℕ) (e : JobEnds) (k : Numerals) {x a b code : List ℕ} {body : ℕ} {r : Came} {o : Outcome} → code ≡ programLinked marks nums ends heads c (replicate 24582 0) → body ≡ mainBody marks heads → a ≡ zeros d →
     jobLeft r b ≡ walkJob code body jmarks jnums e k a → o ≡ cameTo r → ListOut o x b (listBehind d (leaving (Taken c 0 e k) marks nums ends heads jmarks jnums [] x))
 walked-behind d marks nums ends heads jmarks jnums c e k {a = a} {code = code} {body = body} l m z h g =
     let v =
-    h ∙ ap (λ (s : List ℕ). walkJob s body jmarks jnums e k a) l ∙ ap (λ (i : ℕ). walkJob (programLinked marks nums ends heads c (replicate 16388 0)) i jmarks jnums e k a) m
-    ∙ ap (walkJob (programLinked marks nums ends heads c (replicate 16388 0)) (mainBody marks heads) jmarks jnums e k) z
+    h ∙ ap (λ (s : List ℕ). walkJob s body jmarks jnums e k a) l ∙ ap (λ (i : ℕ). walkJob (programLinked marks nums ends heads c (replicate 24582 0)) i jmarks jnums e k a) m
+    ∙ ap (walkJob (programLinked marks nums ends heads c (replicate 24582 0)) (mainBody marks heads) jmarks jnums e k) z
     in
     (g ∙ ap (λ (w : JobLeft). cameTo (w .walked)) v, refl, ap (λ (w : JobLeft). w .answer) v)
 
@@ -126,13 +126,16 @@ module _ (program job : List ℕ) (p : SProg) (j : SJob) (e : reading lister pro
   bodies = bodiesOf (s .marks) (headsOf s)
 
   abbrev code : List ℕ
-  code = programLinked (s .marks) (s .nums) (endsOf s) (headsOf s) (tableOf s .count) (replicate 16388 0)
+  code = programLinked (s .marks) (s .nums) (endsOf s) (headsOf s) (tableOf s .count) (replicate 24582 0)
 
   linked : ProgramLinked (prog p) bodies code
-  linked = accepted-linked program s p h (s .ats) (replicate 64 0) room (omega (arith, zeros-length 64)) (replicate 16388 0) (zeros-length 16388)
+  linked = accepted-linked program s p h (s .ats) (replicate 64 0) room (omega (arith, zeros-length 64)) (replicate 24582 0) (zeros-length 24582)
 
   ok : Accepted (prog p) bodies code
   ok = record { linked = linked; formed = accepted-passed lister program job p j e .wellFormed; few = params-few program s p h }
+
+  wide : length code ≡ 24582
+  wide = accepted-kept program s p h (s .ats) (replicate 64 0) room (omega (arith, zeros-length 64)) (replicate 24582 0) (zeros-length 24582) .0
 
   -- main's body over zeroed storages
   abbrev begun : BegunLeft
@@ -163,7 +166,7 @@ module _ (program job : List ℕ) (p : SProg) (j : SJob) (e : reading lister pro
       on-leaves b =
           let a = accepted-passed lister program job p j e in
           let at = begun-place b (start-main (prog p) (class j) K (a .wellFormed) (a .fits) f .1) in
-          begun-means (prog p) bodies code ok K (accepted-main lister program job p j e K f) begun b (limits j) (a .table) (a .walk) N (a .steps) numerals refl refl refl (omega arith)
+          begun-means (prog p) bodies code ok wide K (accepted-main lister program job p j e K f) begun b (limits j) (a .table) (a .walk) N (a .steps) numerals refl refl refl (omega arith)
           (start-reaches lister program job p j e K f N) (zeros d) nothing-held (omega (arith, zeros-length (length d)))
 
       -- The walk over the cells of accepted texts is that of the definitions.

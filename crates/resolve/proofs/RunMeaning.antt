@@ -30,7 +30,8 @@ use Rattle.semantics.proofs.Environments.{ground-fits}
 use Rattle.linking.specs.Linking.{programLinked}
 use Rattle.linking.specs.Linked.{ProgramLinked}
 use Rattle.linking.proofs.ProgramLaws.{bodiesOf}
-use Rattle.linking.proofs.Accepted.{accepted-linked}
+use Rattle.constants.proofs.ConstantLaws.{NoConstants, nought-at, nought-none}
+use Rattle.linking.proofs.Accepted.{accepted-linked, accepted-kept}
 use Rattle.initial.specs.Beginning.{mainBody, BegunLeft, begunAt}
 use Rattle.initial.specs.declared.begin.Begun.{Begun}
 use Rattle.initial.specs.declared.begin.Begun.the-variants.{Over as BegunOver}
@@ -62,12 +63,12 @@ pub run-left : (program job work d : List ℕ) {t u : Both} {marks nums ends hea
 unfolding runTexts
 run-left program job work d {x = x} {b = b} {o = o} is f h = subst (λ (w : BothAnswer). RunOut o x b (runBehind d w)) (both-are {w = bothOver true program job work} is f) h
 
-pub ran-behind : (d marks nums ends heads jmarks jnums : List ℕ) (c : ℕ) (e : JobEnds) (n : ℕ) {x a b code : List ℕ} {r : RanCells} {o : Outcome} → code ≡ programLinked marks nums ends heads c (replicate 16388 0) → a ≡ zeros d →
+pub ran-behind : (d marks nums ends heads jmarks jnums : List ℕ) (c : ℕ) (e : JobEnds) (n : ℕ) {x a b code : List ℕ} {r : RanCells} {o : Outcome} → code ≡ programLinked marks nums ends heads c (replicate 24582 0) → a ≡ zeros d →
     ranAnswer r b ≡ runInputs marks heads jmarks jnums e code n a → o ≡ answerRan r → RunOut o x b (runBehind d (leaving (Taken c 0 e (record { steps = n; walk = 0; table = 0 })) marks nums ends heads jmarks jnums [] x))
 ran-behind d marks nums ends heads jmarks jnums c e n {a = a} l z h g =
     let v =
     h ∙ ap (λ (s : List ℕ). runInputs marks heads jmarks jnums e s n a) l
-    ∙ ap (runInputs marks heads jmarks jnums e (programLinked marks nums ends heads c (replicate 16388 0)) n) z
+    ∙ ap (runInputs marks heads jmarks jnums e (programLinked marks nums ends heads c (replicate 24582 0)) n) z
     in
     (g ∙ ap (λ (w : RanAnswer). answerRan (w .ran)) v, refl, ap (λ (w : RanAnswer). w .answer) v)
 
@@ -84,13 +85,16 @@ module _ (program job : List ℕ) (p : SProg) (j : SJob) (e : reading runner pro
   bodies = bodiesOf (s .marks) (headsOf s)
 
   abbrev code : List ℕ
-  code = programLinked (s .marks) (s .nums) (endsOf s) (headsOf s) (tableOf s .count) (replicate 16388 0)
+  code = programLinked (s .marks) (s .nums) (endsOf s) (headsOf s) (tableOf s .count) (replicate 24582 0)
 
   linked : ProgramLinked (prog p) bodies code
-  linked = accepted-linked program s p h (s .ats) (replicate 64 0) room (omega (arith, zeros-length 64)) (replicate 16388 0) (zeros-length 16388)
+  linked = accepted-linked program s p h (s .ats) (replicate 64 0) room (omega (arith, zeros-length 64)) (replicate 24582 0) (zeros-length 24582)
 
   ok : Accepted (prog p) bodies code
   ok = record { linked = linked; formed = accepted-passed runner program job p j e .wellFormed; few = params-few program s p h }
+
+  empty : NoConstants code
+  empty = nought-none code (λ m l. accepted-kept program s p h (s .ats) (replicate 64 0) room (omega (arith, zeros-length 64)) (replicate 24582 0) (zeros-length 24582) .1 m l ∙ nought-at 24582 m)
 
   -- main's body over zeroed storages
   abbrev begun : BegunLeft
@@ -109,7 +113,7 @@ module _ (program job : List ℕ) (p : SProg) (j : SJob) (e : reading runner pro
         let f = ground-fits _ (find (prog p) 0 .params) (class j .con .ins) (a .fits) in
         let z : fits (find (prog p) 0 .params) (map embed is) ≡ true = subst (λ (ds : List Exp). fits (find (prog p) 0 .params) ds ≡ true) (inv (all-embed (class j .con .ins) (a .groundInputs refl noughts ones))) (a .fits) in
         subst (λ (o : Begun). RanMeans (zeros d) (ran p j) (runs o)) (inv (b .on))
-        (run-means (prog p) bodies code ok is (zeros d) (omega (arith, zeros-length (length d))) f z (begun .heap) (begun .frame) (begun .q) (b .at) (b .few) (b .stands) N)
+        (run-means (prog p) bodies code ok empty is (zeros d) (omega (arith, zeros-length (length d))) f z (begun .heap) (begun .frame) (begun .q) (b .at) (b .few) (b .stands) N)
 
     over-means : begun .answer ≡ BegunOver → 4096 < nodesNext is (go (find (prog p) 0 .body) (startEnv (prog p) is)) → RanMeans (zeros d) (ran p j) (runs (begun .answer))
     over-means o l = rw (o, runner-over (prog p) is N l) (refl, refl)

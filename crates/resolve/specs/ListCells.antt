@@ -47,7 +47,7 @@ afterBoth f work d TooShort = record { answer = Short; work = work; cells = d }
 
 -- a program of c definitions, linked, and a job
 abbrev pub walkedTexts : List ℕ → List ℕ → List ℕ → List ℕ → List ℕ → List ℕ → List ℕ → ℕ → JobEnds → Numerals → JobLeft
-walkedTexts marks nums ends heads jmarks jnums a c e k = walkJob (programLinked marks nums ends heads c (replicate 16388 0)) (mainBody marks heads) jmarks jnums e k a
+walkedTexts marks nums ends heads jmarks jnums a c e k = walkJob (programLinked marks nums ends heads c (replicate 24582 0)) (mainBody marks heads) jmarks jnums e k a
 
 abbrev pub listBehind : List ℕ → BothAnswer → ListLeft
 listBehind d w =

@@ -39,7 +39,7 @@ afterBoth f work d TooShort = record { answer = Short; work = work; cells = d }
 
 -- a program of c definitions, linked, and a job's inputs
 abbrev pub ranTexts : List ℕ → List ℕ → List ℕ → List ℕ → List ℕ → List ℕ → List ℕ → ℕ → JobEnds → Numerals → RanAnswer
-ranTexts marks nums ends heads jmarks jnums a c e k = runInputs marks heads jmarks jnums e (programLinked marks nums ends heads c (replicate 16388 0)) (k .steps) a
+ranTexts marks nums ends heads jmarks jnums a c e k = runInputs marks heads jmarks jnums e (programLinked marks nums ends heads c (replicate 24582 0)) (k .steps) a
 
 abbrev pub runBehind : List ℕ → BothAnswer → RunLeft
 runBehind d w =

@@ -51,7 +51,7 @@ fn list_texts(program: &[u8], job: &[u8], work: &mut [u16], answer: &mut [u16]) 
     let mut jmarks: [u16; 4097] = [0; 4097];
     let mut jnums: [u16; 4097] = [0; 4097];
     let mut symbols: [u16; 2048] = [0; 2048];
-    let mut code: [u16; 16388] = [0; 16388];
+    let mut code: [u16; 24582] = [0; 24582];
     let both = read_both(
         false,
         program,

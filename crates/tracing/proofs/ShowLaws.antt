@@ -26,6 +26,7 @@ use Rattle.heap.specs.declared.configuration.Configuration.{Configuration as In
 use Rattle.runs.proofs.RunLaws.{Below, below-self}
 use Rattle.linking.specs.Code.{link, linkAt}
 use Rattle.linking.specs.Linked.{symLinked, eLinked, aLinked, consLinked, TermLinked, callLinked, sameLinked, testLinked, resultLinked, ProgramLinked}
+use Rattle.constants.proofs.ConstantLaws.{Constants}
 use Rattle.values.specs.Names.{namesFrom}
 use Rattle.values.specs.Calls.{calledTo}
 use Rattle.values.proofs.StateLaws.{isNone, HoldsPair, Stands, Leads}
@@ -93,7 +94,7 @@ module _ {p : Prog} {bodies : ℕ → ℕ} {code : List ℕ} {sc : List Param} w
   pub test-at : {i k h t y : ℕ} {e : Exp} {s u : Term} → TermLinked p bodies code sc i (conditional (consp e h t y) s u) k → At code i 5
   test-at (testLinked l c d e g s u) = at-link l (omega arith)
 
-module _ (p : Prog) (bodies : ℕ → ℕ) (code : List ℕ) (ok : Accepted p bodies code) {h f q : List ℕ} {c : InCells} {K : Configuration} (x : Stands p bodies code h f q c K) (size : nodesState (K .cr) ≤ 4097) (less : length (K .cr .neqs) ≤ 2047)
+module _ (p : Prog) (bodies : ℕ → ℕ) (code : List ℕ) (ok : Accepted p bodies code) {h f q : List ℕ} {c : InCells} {K : Configuration} (x : Stands p bodies code h f q c K) (constants : Constants code h (c .used)) (size : nodesState (K .cr) ≤ 4097) (less : length (K .cr .neqs) ≤ 2047)
     (simple : simplify (K .cr .neqs) ≡ some (K .cr .neqs)) (coded : K .fresh ≤ 16381) (scoped : WellScoped p (K .term) (K .cr .con .env)) (room : c .used + 8192 ≤ 65535) where
   abbrev pub asked : AskLeft
   asked = askedAt code c h f
@@ -170,7 +171,7 @@ module _ (p : Prog) (bodies : ℕ → ℕ) (code : List ℕ) (ok : Accepted p bo
       let d : g < length p = scoped-call (subst (λ (t : Term). WellScoped p t (K .cr .con .env)) is scoped) .0 in
       let a = call-at (here (call g ds) is) d in
       let k = asked-call (a .mark) in
-      let l = call-leads p bodies code (ok .linked) (ok .formed) (ok .few) h f q c K x size room g ds is scoped in
+      let l = call-leads p bodies code (ok .linked) (ok .formed) (ok .few) h f q c K x constants size room g ds is scoped in
       let w : (b : Bool) → Leads p bodies code h (c .used) (some (behind g ds)) (takenAs code c Call b h f q) = λ b. either b l in
       subst Shows (inv (call-successors p K g ds is)) (rw k (refl, refl, w, looked 3 Call h a k below-self (x .holds .heap-size) refl))
     where
@@ -202,8 +203,8 @@ module _ (p : Prog) (bodies : ℕ → ℕ) (code : List ℕ) (ok : Accepted p bo
   shows-test e g k y t u is =
       let m = test-at (here (conditional (consp e g k y) t u) is) in
       let w = asked-test (m .mark) in
-      let b = consp-lead x size room coded scoped is in
-      let l = stands-look x size room coded scoped is in
+      let b = consp-lead x constants size room coded scoped is in
+      let l = stands-look x constants size room coded scoped is in
       subst Shows (inv (b .successors)) (rw w (
         refl,
         refl,

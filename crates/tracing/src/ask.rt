@@ -23,7 +23,7 @@ pub enum Asked {
 
 // The value that a `cons?` tests is written behind what is used, where it has no place yet.
 pub fn ask(
-    code: &[u16; 16388],
+    code: &[u16; 24582],
     heap: &mut [u16; 65535],
     frame: &[u16; 12360],
     c: Configuration,

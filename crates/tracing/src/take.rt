@@ -14,7 +14,7 @@ ghost use Rattle.heap.specs.Moving.{left as leaves};
 ghost use Rattle.tracing.specs.Asking.{trueTaken, falseTaken, takenAs};
 
 fn take_yes(
-    code: &[u16; 16388],
+    code: &[u16; 24582],
     heap: &mut [u16; 65535],
     frame: &mut [u16; 12360],
     q: &mut [u16; 4096],
@@ -32,7 +32,7 @@ fn take_yes(
 }
 
 fn take_no(
-    code: &[u16; 16388],
+    code: &[u16; 24582],
     heap: &mut [u16; 65535],
     frame: &mut [u16; 12360],
     q: &mut [u16; 4096],
@@ -51,7 +51,7 @@ fn take_no(
 
 // By the true branch, or by the false one; a call has one way on.
 pub fn take(
-    code: &[u16; 16388],
+    code: &[u16; 24582],
     heap: &mut [u16; 65535],
     frame: &mut [u16; 12360],
     q: &mut [u16; 4096],

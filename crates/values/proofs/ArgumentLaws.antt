@@ -20,6 +20,7 @@ use Rattle.heap.proofs.HeapLaws.{Holds, holds-below}
 use Rattle.heap.proofs.FrameLaws.{Held, held-front, entry-length, entry-before, entry-from, entry-to}
 use Rattle.heap.proofs.FrameLaws as frame
 use Rattle.heap.proofs.NodeLaws.{holds-nodes}
+use Rattle.constants.proofs.ConstantLaws.{Constants, constants-below}
 use Rattle.linking.specs.Code.{linkAt}
 use Rattle.linking.specs.Linked.{ExpLinked, symLinked, eLinked, aLinked, consLinked, ExpsLinked, noneLinked, moreLinked}
 use Rattle.linking.specs.Places.{envOf}
@@ -120,7 +121,7 @@ module _ (code : List ℕ) (base : ℕ) where
 
     module _ (h f : List ℕ) (used entries sum i j n : ℕ) (t : Exp) (ts : List Exp) (held : Held h used f base vs) (few : base + length vs ≤ 4120) (behind : base + length vs ≤ entries) (room : entries < 4120)
         (lf : length f ≡ 12360) (past : linkAt code i .past ≡ j)
-        (again : (g f1 : List ℕ) (now sum1 : ℕ) → Held g now f1 base vs → length f1 ≡ 12360 → length g ≡ 65535 → now ≤ 65535 → sum1 ≤ 4097 →
+        (again : (g f1 : List ℕ) (now sum1 : ℕ) → Below used g h → used ≤ now → Held g now f1 base vs → length f1 ≡ 12360 → length g ≡ 65535 → now ≤ 65535 → sum1 ≤ 4097 →
         Outcome g f1 now (entries + 1) sum1 ts (argumentsAt code base n (entries + 1) now sum1 j g f1)) where
       abbrev all : ArgueLeft
       all = argumentsAt code base (suc n) entries used sum i h f
@@ -151,7 +152,7 @@ module _ (code : List ℕ) (base : ℕ) where
           let o = one-entered entries used sum i (v .from) (v .to) (v .now) h f (value .heap) t (v .done) refl (holds-nodes (v .holds)) l room in
           rw (on (entries + 1) (v .now) (sum + nodes t) (value .heap) f1 o)
           (then-others v l (argumentsAt code base n (entries + 1) (v .now) (sum + nodes t) j (value .heap) f1)
-          (again (value .heap) f1 (v .now) (sum + nodes t) held1 (entry-length entries 0 (v .from) (v .to) f ∙ lf) (v .size) (v .fits) l))
+          (again (value .heap) f1 (v .now) (sum + nodes t) (v .same) (v .grown) held1 (entry-length entries 0 (v .from) (v .to) f ∙ lf) (v .size) (v .fits) l))
       few-nodes v (no l) = inl (over-first (many-entered entries used sum i (v .from) (v .to) (v .now) h f t (v .done) (holds-nodes (v .holds)) (omega arith) room), inr (omega arith))
 
       more-outcome : values.Outcome code f base h used sc vs typed held few i t → Outcome h f used entries sum (t ∷ ts) all
@@ -159,11 +160,11 @@ module _ (code : List ℕ) (base : ℕ) where
       more-outcome (inr v) = few-nodes v (decLe (sum + nodes t) 4097)
 
     -- THE LAW of a call's arguments
-    pub arguments-outcome : {i : ℕ} {cs : List Exp} {j : ℕ} → ExpsLinked code sc i cs j → AllKnown sc cs → (h f : List ℕ) (used entries sum : ℕ) → Held h used f base vs → base + length vs ≤ entries →
+    pub arguments-outcome : {i : ℕ} {cs : List Exp} {j : ℕ} → ExpsLinked code sc i cs j → AllKnown sc cs → (h f : List ℕ) (used entries sum : ℕ) → Constants code h used → Held h used f base vs → base + length vs ≤ entries →
         entries + length cs ≤ 4120 → length f ≡ 12360 → length h ≡ 65535 → used ≤ 65535 → sum ≤ 4097 →
         Outcome h f used entries sum (applyAll (substOfEnv (envOf sc vs)) cs) (argumentsAt code base (length cs) entries used sum i h f)
     unfolding argumentsAt
-    arguments-outcome noneLinked kn h f used entries sum held few room lf lh fit le =
+    arguments-outcome noneLinked kn h f used entries sum con held few room lf lh fit le =
         inr (
           record {
             now = used;
@@ -179,7 +180,7 @@ module _ (code : List ℕ) (base : ℕ) where
           },
           omega arith,
         )
-    arguments-outcome {i} (moreLinked {j = j} {c = c} {cs = cs} l ls) kn h f used entries sum held few room lf lh fit le =
+    arguments-outcome {i} (moreLinked {j = j} {c = c} {cs = cs} l ls) kn h f used entries sum con held few room lf lh fit le =
         more-outcome h f used entries sum i j (length cs) (apply (substOfEnv (envOf sc vs)) c) (applyAll (substOfEnv (envOf sc vs)) cs) held (omega arith) few (omega arith) lf (past-linked l)
-        (λ g f1 now sum1 held1 lf1 lh1 fit1 le1. arguments-outcome ls (kn .1) g f1 now (entries + 1) sum1 held1 (omega arith) (omega arith) lf1 lh1 fit1 le1)
-        (value-outcome code f base h used sc vs typed held (omega arith) lh fit l (kn .0))
+        (λ g f1 now sum1 same1 grown1 held1 lf1 lh1 fit1 le1. arguments-outcome ls (kn .1) g f1 now (entries + 1) sum1 (constants-below con same1 grown1) held1 (omega arith) (omega arith) lf1 lh1 fit1 le1)
+        (value-outcome code f base h used sc vs typed held (omega arith) lh fit con l (kn .0))

@@ -20,6 +20,7 @@ use Rattle.heap.specs.declared.configuration.Moved.the-variants.{On, Over as Mo
 use Rattle.runs.proofs.RunLaws.{Below, below-self, below-sets}
 use Rattle.heap.proofs.FrameLaws.{Held, held-front, moved-means}
 use Rattle.heap.proofs.NodeLaws.{held-nodes}
+use Rattle.constants.proofs.ConstantLaws.{Constants}
 use Rattle.linking.specs.Code.{link, linkAt}
 use Rattle.linking.specs.Linked.{ExpsLinked}
 use Rattle.linking.specs.Places.{envOf}
@@ -87,7 +88,7 @@ module _ (code h f : List ℕ) (base : ℕ) (c : Configuration) (ios : List Exp)
         values = moved-means (a .heap) (x .now) (a .frame) (c .entries) n base behind (omega (arith, x .room)) ln (x .holds);
       })
 
-  module _ (sc : List Param) (vs : List Exp) (typed : Typed sc vs) (held : Held h (c .used) f base vs) (names : base + length vs ≤ c .entries) (lh : length h ≡ 65535) (fit : c .used ≤ 65535) where
+  module _ (sc : List Param) (vs : List Exp) (typed : Typed sc vs) (held : Held h (c .used) f base vs) (names : base + length vs ≤ c .entries) (lh : length h ≡ 65535) (fit : c .used ≤ 65535) (constants : Constants code h (c .used)) where
     abbrev pub Outcome : ℕ → List Exp → Type 0
     Outcome body ts =
         ((calledTo code base c h f .answer ≡ MovedOver) × ((65535 < c .used + nodesAll ts) ⊎ (4097 < sum + nodesAll ts))) ⊎
@@ -98,7 +99,7 @@ module _ (code h f : List ℕ) (base : ℕ) (c : Configuration) (ios : List Exp)
         c .entries + length cs ≤ 4120 → sum ≤ 4097 → Outcome body (applyAll (substOfEnv (envOf sc vs)) cs)
     call-outcome {i} {j} {body} {past} {cs} p b e ls kn room l =
         let a = argumentsAt code base (length cs) (c .entries) (c .used) sum (i + 4) h f in
-        rw (called-argued p b e l) (go a (arguments-outcome code base sc vs typed ls kn h f (c .used) (c .entries) sum held names room lf lh fit l))
+        rw (called-argued p b e l) (go a (arguments-outcome code base sc vs typed ls kn h f (c .used) (c .entries) sum constants held names room lf lh fit l))
       where
         go : (a : ArgueLeft) → let ts = applyAll (substOfEnv (envOf sc vs)) cs in arguments.Outcome code base sc vs typed h f (c .used) (c .entries) sum ts a →
             ((argued c base (length cs) body (a .answer) (a .heap) (a .frame) .answer ≡ MovedOver) × ((65535 < c .used + nodesAll ts) ⊎ (4097 < sum + nodesAll ts))) ⊎

@@ -32,6 +32,7 @@ use Rattle.linking.specs.Code.{link, linkAt}
 use Rattle.linking.specs.Linked.{ExpsLinked, TermLinked, callLinked, reach, BodiesLinked, moreBodies, ProgramLinked}
 use Rattle.linking.specs.Places.{envOf}
 use Rattle.linking.proofs.PlaceLaws.{bound-arguments, distinct-reach}
+use Rattle.constants.proofs.ConstantLaws.{Constants}
 use Rattle.values.specs.Calls.{calledTo}
 use Rattle.values.proofs.ValueLaws.{Typed}
 use Rattle.values.proofs.ArgumentLaws.{AllKnown}
@@ -81,7 +82,7 @@ call-parts : {p : Prog} {bodies : ℕ → ℕ} {code : List ℕ} {sc : List Para
 call-parts (callLinked a b) = (_, a, b)
 
 module _ (p : Prog) (bodies : ℕ → ℕ) (code : List ℕ) (linked : ProgramLinked p bodies code) (formed : wellFormed p ≡ true) (few : (f : ℕ) → f < length p → length (find p f .params) ≤ 16)
-    (h f q : List ℕ) (c : InCells) (K : Configuration) (x : Stands p bodies code h f q c K) (size : nodesState (K .cr) ≤ 4097) (room : c .used + 8192 ≤ 65535) where
+    (h f q : List ℕ) (c : InCells) (K : Configuration) (x : Stands p bodies code h f q c K) (constants : Constants code h (c .used)) (size : nodesState (K .cr) ≤ 4097) (room : c .used + 8192 ≤ 65535) where
   abbrev σ : Substitution
   σ = substOfEnv (K .cr .con .env)
 
@@ -146,7 +147,7 @@ module _ (p : Prog) (bodies : ℕ → ℕ) (code : List ℕ) (linked : ProgramLi
         let e = entries-are (x .holds) in
         let v : Held h (c .used) f base (x .holds .values) = rw b (values-held (x .holds)) in
         let o : Out (substOfEnv (envOf (x .names) (x .holds .values))) =
-        call-outcome code h f base c (ends (K .cr)) (x .holds .frame-size) (omega arith) (ends-held (x .holds)) (inv b) (omega arith) (x .names) (x .holds .values) (x .holds .typed) v (omega arith) (x .holds .heap-size) (x .holds .fits)
+        call-outcome code h f base c (ends (K .cr)) (x .holds .frame-size) (omega arith) (ends-held (x .holds)) (inv b) (omega arith) (x .names) (x .holds .values) (x .holds .typed) v (omega arith) (x .holds .heap-size) (x .holds .fits) constants
         refl (call-below code (c .place) linked-at) linked-at (call-parts stands-at .2) known (omega (arith, fits-length ps ds fit, few g defined)) (omega (arith, all-nodes)) in
         subst (λ (σ′ : ExpEnv). Out (substOfEnv σ′)) (inv (x .holds .env)) o
 

@@ -1,12 +1,12 @@
 -- Where the heap has no room for the value of an expression, `value` says so.
 use Prim.Native.Nat.{ℕ, zero, suc, _+_, _-_, _*_, _≤_, _<_, min}
 use mathlib.Core.Path.{_≡_, refl, ap, subst, _∙_, sym as inv}
-use mathlib.Core.Bool.{false}
+use mathlib.Core.Bool.{Bool, true, false}
 use mathlib.Core.List.{List, [], _∷_}
 use mathlib.Core.Logic.{_⊎_, inl, inr}
 use native.Mathlib.Omega.{arith}
 use native.Mathlib.Decide.{decLe}
-use lib.Dec.{eqb}
+use lib.Dec.{eqb, ltb}
 use lib.ListN.{length, getD}
 use lib.Seq.{sets, length-sets}
 use borrow.Author.Tests.{lt-ltb}
@@ -25,13 +25,15 @@ use Rattle.runs.proofs.RunLaws.{Below, below-self, below-sets, length-cellsAt, 
 use Rattle.heap.proofs.HeapLaws.{Holds, holds-below}
 use Rattle.heap.proofs.FrameLaws.{Held}
 use Rattle.linking.specs.Code.{link, linkAt}
+use Rattle.constants.specs.Table.{constantAt}
+use Rattle.constants.proofs.ConstantLaws.{Constants}
 use Rattle.linking.specs.Linked.{placeIn, ExpLinked, symLinked, eLinked, aLinked, consLinked}
 use Rattle.linking.specs.Places.{envOf}
 use Rattle.linking.proofs.AgreeLaws.{exp-goes-on}
 use Rattle.linking.proofs.PlaceLaws.{lookup-e, lookup-a}
 use Rattle.values.specs.Values.{entryAt, placeAt, onwardFill, tokenWritten, tokensWritten, valueAt}
 use Rattle.values.specs.declared.value.Valued.the-variants.{Over}
-use Rattle.values.proofs.ValueLaws.{held-at, Typed, typed-length, atom-typed, Known, two-parts, then, nothing-token, cell-token, tokens-mean, ValuedAs, valued-name, value-means}
+use Rattle.values.proofs.ValueLaws.{held-at, Typed, typed-length, atom-typed, Known, two-parts, then, nothing-token, cell-token, tokens-mean, ValuedAs, valued-name, valued-constant, value-means}
 
 module _ (code f : List ℕ) (base : ℕ) where
   abbrev wrote : ℕ → ℕ → ℕ → List ℕ → FillAnswer
@@ -135,21 +137,25 @@ module _ (code f : List ℕ) (base : ℕ) where
         pair-none i j kk k g tc (apply σ d) w (exp-goes-on code sc lc) (exp-goes-on code sc ld) m (λ l. tokens-none lc (kn .0) (k + 1) g1 (omega arith) b1 z1 l)
         (λ l. tokens-mean code f base h used sc vs typed held few lc (kn .0) (k + 1) g1 (omega arith) b1 z1 l) (λ l. tokens-none ld (kn .1) (k + 1 + nodes tc) g2 (omega arith) b2 z2 l) o
 
-    valued-none : (i j m a : ℕ) → linkAt code i ≡ link m a 0 j → eqb m 2 ≡ false → None i j used h → valueAt code f base used i h .answer ≡ Over
+    valued-none : (i j m a : ℕ) → linkAt code i ≡ link m a 0 j → eqb m 2 ≡ false → ltb (constantAt code i .from) (constantAt code i .to) ≡ false → None i j used h → valueAt code f base used i h .answer ≡ Over
     unfolding valueAt
-    valued-none i j m a e n w = rw (e, n, w)
+    valued-none i j m a e n o w = rw (e, n, o, w)
 
     -- no room for the value, or the value
     abbrev pub Outcome : ℕ → Exp → Type 0
     Outcome i t = ((valueAt code f base used i h .answer ≡ Over) × (65535 < used + nodes t)) ⊎ ValuedAs code f base h used sc vs typed held few t (valueAt code f base used i h)
 
-    module _ (whole : length h ≡ 65535) (in-heap : used ≤ 65535) where
+    module _ (whole : length h ≡ 65535) (in-heap : used ≤ 65535) (constants : Constants code h used) where
       by-room : {i : ℕ} {c : Exp} {j : ℕ} (m a : ℕ) → linkAt code i ≡ link m a 0 j → eqb m 2 ≡ false → ExpLinked code sc i c j → Known sc c → Outcome i (apply σ c)
-      by-room {i} {c} {j} m a e n l kn = go (decLe (used + nodes (apply σ c)) 65535)
+      by-room {i} {c} {j} m a e n l kn = pick (ltb (constantAt code i .from) (constantAt code i .to)) refl
         where
-          go : Dec (used + nodes (apply σ c) ≤ 65535) → Outcome i (apply σ c)
-          go (yes r) = inr (value-means code f base h used sc vs typed held few l kn whole r)
-          go (no r) = inl (valued-none i j m a e n (tokens-none l kn used h (omega arith) below-self whole (omega arith)), omega arith)
+          go : ltb (constantAt code i .from) (constantAt code i .to) ≡ false → Dec (used + nodes (apply σ c) ≤ 65535) → Outcome i (apply σ c)
+          go o (yes r) = inr (value-means code f base h used sc vs typed held few l kn whole r o)
+          go o (no r) = inl (valued-none i j m a e n o (tokens-none l kn used h (omega arith) below-self whole (omega arith)), omega arith)
+
+          pick : (t : Bool) → ltb (constantAt code i .from) (constantAt code i .to) ≡ t → Outcome i (apply σ c)
+          pick true o = inr (valued-constant code f base h used sc vs typed held few m a e n l whole in-heap constants o)
+          pick false o = go o (decLe (used + nodes (apply σ c)) 65535)
 
       -- THE LAW of values
       pub value-outcome : {i : ℕ} {c : Exp} {j : ℕ} → ExpLinked code sc i c j → Known sc c → Outcome i (apply σ c)

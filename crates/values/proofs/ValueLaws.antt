@@ -8,7 +8,7 @@ use native.Mathlib.Numerals.{add-one}
 use lib.Dec.{eqb, ltb}
 use lib.ListN.{length, getD, set}
 use lib.Seq.{sets, length-sets}
-use borrow.Author.Tests.{lt-ltb}
+use borrow.Author.Tests.{lt-ltb, ltb-true}
 use Rattle.expressions.specs.Expression.{AtomicExp, sym, avar, Exp, atm, evar, pair, nodes}
 use Rattle.expressions.specs.Substitution.{Substitution, apply, applyAtomic}
 use Rattle.language.specs.Program.{Param, pe, pa, atomOf}
@@ -25,6 +25,10 @@ use Rattle.heap.proofs.HeapLaws.{Holds, holds-below, sets-cells}
 use Rattle.heap.proofs.FrameLaws.{Held}
 use Rattle.heap.proofs.FrameLaws as frame
 use Rattle.linking.specs.Code.{link, linkAt}
+use Rattle.constants.specs.Table.{constantAt}
+use Rattle.constants.proofs.ConstantLaws.{Constants, closed-cells}
+use Rattle.linking.specs.declared.code.Link.{Link}
+use Rattle.constants.specs.Laying.{namedIn, cellsOf}
 use Rattle.linking.specs.Linked.{placeIn, ExpLinked, symLinked, eLinked, aLinked, consLinked}
 use Rattle.linking.specs.Places.{envOf}
 use Rattle.linking.proofs.AgreeLaws.{exp-goes-on}
@@ -208,11 +212,11 @@ module _ (code f : List ℕ) (base : ℕ) where
         })
 
     -- else what was written behind what was used
-    valued-cells : (i j : ℕ) (m a : ℕ) (t : Exp) → length h ≡ 65535 → linkAt code i ≡ link m a 0 j → eqb m 2 ≡ false → used + nodes t ≤ 65535 → Written i j t used h → ValuedAs t (valueAt code f base used i h)
+    valued-cells : (i j : ℕ) (m a : ℕ) (t : Exp) → length h ≡ 65535 → linkAt code i ≡ link m a 0 j → eqb m 2 ≡ false → ltb (constantAt code i .from) (constantAt code i .to) ≡ false → used + nodes t ≤ 65535 → Written i j t used h → ValuedAs t (valueAt code f base used i h)
     unfolding valueAt
-    valued-cells i j m a t z e n l w =
+    valued-cells i j m a t z e n o l w =
         let d : used + nodes t - used ≡ length (cells t) = omega (arith, cells-nodes t) in
-        rw (e, n, w) (record {
+        rw (e, n, o, w) (record {
           from = used;
           to = used + nodes t;
           now = used + nodes t;
@@ -225,10 +229,31 @@ module _ (code f : List ℕ) (base : ℕ) where
           size = length-sets h used (cells t) ∙ z;
         })
 
-    pub value-means : {i : ℕ} {c : Exp} {j : ℕ} → ExpLinked code sc i c j → Known sc c → length h ≡ 65535 → used + nodes (apply σ c) ≤ 65535 → ValuedAs (apply σ c) (valueAt code f base used i h)
-    value-means {i} (symLinked {z = s} e) kn z m = valued-cells i (i + 1) 1 (4 * s + 1) _ z e refl m (tokens-mean (symLinked e) kn used h (omega arith) below-self z m)
-    value-means {i} (eLinked {x = x} e) kn z m =
+    -- a constant has the range that the table says
+    pub valued-constant : {i : ℕ} {c : Exp} {j : ℕ} (m a : ℕ) → linkAt code i ≡ link m a 0 j → eqb m 2 ≡ false → ExpLinked code sc i c j → length h ≡ 65535 → used ≤ 65535 → Constants code h used →
+        ltb (constantAt code i .from) (constantAt code i .to) ≡ true → ValuedAs (apply σ c) (valueAt code f base used i h)
+    unfolding valueAt
+    valued-constant {i} {c} {j} m a e n l z fit k o =
+        let x = k .holds i (ltb-true (constantAt code i .from) (constantAt code i .to) o) in
+        let p : linkAt code i .past ≡ j = ap (λ (w : Link). w .past) e in
+        let y : run (constantAt code i .from) (constantAt code i .to) h ≡ cells (apply σ c) = x .is ∙ ap (λ (w : ℕ). cellsOf code (w - i) i) p ∙ closed-cells code sc σ l (ap (λ (w : ℕ). namedIn code (w - i) i) (inv p) ∙ x .nameless) in
+        rw (e, n, o) (record {
+          from = constantAt code i .from;
+          to = constantAt code i .to;
+          now = used;
+          done = refl;
+          holds = record { below = x .below; is = y };
+          same = below-self;
+          grown = omega arith;
+          most = omega arith;
+          fits = fit;
+          size = z;
+        })
+
+    pub value-means : {i : ℕ} {c : Exp} {j : ℕ} → ExpLinked code sc i c j → Known sc c → length h ≡ 65535 → used + nodes (apply σ c) ≤ 65535 → ltb (constantAt code i .from) (constantAt code i .to) ≡ false → ValuedAs (apply σ c) (valueAt code f base used i h)
+    value-means {i} (symLinked {z = s} e) kn z m o = valued-cells i (i + 1) 1 (4 * s + 1) _ z e refl o m (tokens-mean (symLinked e) kn used h (omega arith) below-self z m)
+    value-means {i} (eLinked {x = x} e) kn z m o =
         let l = typed-length typed in valued-name i (placeIn (pe x) sc) (i + 1) _ z (omega arith) e (omega arith) (lookup-e (atm (sym 0)) x sc vs l)
-    value-means {i} (aLinked {x = x} e) kn z m =
+    value-means {i} (aLinked {x = x} e) kn z m o =
         let l = typed-length typed in valued-name i (placeIn (pa x) sc) (i + 1) _ z (omega arith) e (omega arith) (ap atm (lookup-a (sym 0) x sc vs l kn) ∙ atom-typed (atm (sym 0)) x typed kn)
-    value-means {i} (consLinked {k = kk} o w lc ld e) kn z m = valued-cells i (kk + 1) 0 0 _ z o refl m (tokens-mean (consLinked o w lc ld e) kn used h (omega arith) below-self z m)
+    value-means {i} (consLinked {k = kk} b w lc ld e) kn z m o = valued-cells i (kk + 1) 0 0 _ z b refl o m (tokens-mean (consLinked b w lc ld e) kn used h (omega arith) below-self z m)

@@ -10,6 +10,7 @@ use Rattle.sets.specs.declared.fill.Filled.the-variants.{Done, Over as FilledOv
 use Rattle.runs.specs.Runs.{written, appended}
 use Rattle.heap.specs.Entries.{entryFrom, entryTo}
 use Rattle.linking.specs.Code.{linkAt}
+use Rattle.constants.specs.Table.{constantAt}
 use Rattle.values.specs.declared.tokens.Place.{Place}
 use Rattle.values.specs.declared.value.Valued.{Valued}
 use Rattle.values.specs.declared.value.Valued.the-variants.{At, Over}
@@ -50,9 +51,12 @@ abbrev pub madeAt : ℕ → Filled → Valued
 madeAt used (Done k) = At used k k
 madeAt used FilledOver = Over
 
+-- a name has its entry's range, an expression without names its own; what a `cons` makes is written
 unfoldable pub valueAt : List ℕ → List ℕ → ℕ → ℕ → ℕ → List ℕ → ValueLeft
 valueAt code frame base used i h =
     let l = linkAt code i in
     let e = entryAt frame (placeAt base (l .first)) in
+    let k = constantAt code i in
     let w = tokensWritten code frame base (l .past - i) i used h in
-    cond (eqb (l .mark) 2) (valueLeft (At (e .from) (e .to) used) h) (valueLeft (madeAt used (w .answer)) (w .cells))
+    cond (eqb (l .mark) 2) (valueLeft (At (e .from) (e .to) used) h)
+    (cond (ltb (k .from) (k .to)) (valueLeft (At (k .from) (k .to) used) h) (valueLeft (madeAt used (w .answer)) (w .cells)))

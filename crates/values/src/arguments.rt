@@ -49,7 +49,7 @@ fn taken(p: Pushed, used: usize, nodes: usize) -> Argued
 
 // The argument at i, its entry behind so many.
 fn argument(
-    code: &[u16; 16388],
+    code: &[u16; 24582],
     heap: &mut [u16; 65535],
     frame: &mut [u16; 12360],
     base: usize,
@@ -72,7 +72,7 @@ fn argument(
 
 // n arguments from i on.
 pub fn arguments(
-    code: &[u16; 16388],
+    code: &[u16; 24582],
     heap: &mut [u16; 65535],
     frame: &mut [u16; 12360],
     base: usize,

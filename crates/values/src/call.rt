@@ -28,7 +28,7 @@ fn in_body(c: Configuration, base: usize, n: usize, used: usize, body: usize) ->
 }
 
 pub fn call(
-    code: &[u16; 16388],
+    code: &[u16; 24582],
     heap: &mut [u16; 65535],
     frame: &mut [u16; 12360],
     base: usize,

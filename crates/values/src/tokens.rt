@@ -58,7 +58,7 @@ fn push_cell(heap: &mut [u16; 65535], c: u16, k: usize) -> Filled
 
 // The cells of the token j, at k: a symbol's or a pair's own, a name's value.
 fn push_token(
-    code: &[u16; 16388],
+    code: &[u16; 24582],
     heap: &mut [u16; 65535],
     frame: &[u16; 12360],
     base: usize,
@@ -82,7 +82,7 @@ fn push_token(
 
 // Those of the tokens from i up to `to`, at `used`. Done: what is used then.
 pub(crate) fn push_tokens(
-    code: &[u16; 16388],
+    code: &[u16; 24582],
     heap: &mut [u16; 65535],
     frame: &[u16; 12360],
     base: usize,

@@ -2,6 +2,7 @@
 use crate::tokens::entry_at;
 use crate::tokens::place_at;
 use crate::tokens::push_tokens;
+use constants::table::constant_at;
 use linking::code::NAME;
 use linking::code::link_at;
 use sets::fill::Filled;
@@ -29,7 +30,7 @@ fn made(used: usize, w: Filled) -> Valued
 
 // The value of the expression at i, the names' entries from `base` on.
 pub fn value(
-    code: &[u16; 16388],
+    code: &[u16; 24582],
     heap: &mut [u16; 65535],
     frame: &[u16; 12360],
     base: usize,
@@ -47,6 +48,14 @@ pub fn value(
         return Valued::At {
             from: e.from,
             to: e.to,
+            used: used,
+        };
+    }
+    let k = constant_at(code, i);
+    if k.from < k.to {
+        return Valued::At {
+            from: k.from,
+            to: k.to,
             used: used,
         };
     }

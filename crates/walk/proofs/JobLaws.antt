@@ -22,20 +22,28 @@ use Rattle.semantics.proofs.Reaching.{Reaches, here, reaches-call}
 use Rattle.heap.specs.declared.configuration.Configuration.{Configuration as InCells}
 use Rattle.heap.specs.declared.configuration.Moved.{Moved}
 use Rattle.heap.specs.declared.configuration.Moved.the-variants.{On as MovedOn, Contradiction, Over as MovedOver}
+use Rattle.heap.proofs.FrameLaws.{held-kept}
+use Rattle.linking.specs.Code.{linkAt}
+use Rattle.linking.specs.Linked.{BodiesLinked, noBodies, moreBodies}
+use Rattle.linking.proofs.AgreeLaws.{term-agrees}
+use Rattle.constants.specs.Laying.{ConstantsLeft, constantsLaid}
+use Rattle.constants.proofs.ConstantLaws.{Constants, Kept, constants-held, constants-kept}
 use Rattle.saving.specs.Saving.{sizeOf, SaveLeft, savedTo}
 use Rattle.saving.specs.Records.{Record, recordOf, recordCells, Fits, Holding}
 use Rattle.saving.specs.declared.head.Node.{Node as Saved}
 use Rattle.saving.proofs.HoldingLaws.{records-one, holding-none}
 use Rattle.saving.proofs.SavedLaws.{save-fits}
 use Rattle.values.specs.Sizes.{keptNodes, sizedAs}
-use Rattle.values.proofs.StateLaws.{trees, HoldsPair, nodes-length}
+use Rattle.values.proofs.StateLaws.{trees, HoldsPair, Stands, nodes-length}
 use Rattle.values.proofs.PairLaws.{state-nodes, entries-few}
 use Rattle.values.proofs.ContractionLaws.{pair-on, pair-over}
 use Rattle.tracing.proofs.ShowLaws.{Accepted}
-use Rattle.initial.specs.Beginning.{BegunLeft}
+use Rattle.initial.specs.Beginning.{BegunLeft, begunLeft}
+use Rattle.initial.specs.declared.begin.Begun.the-variants.{On}
 use Rattle.initial.proofs.BeginLaws.{inMain, Begins}
 use Rattle.lines.specs.LineCells.{answerRoom}
 use Rattle.lines.proofs.LineLaws.{LinesHeld}
+use Rattle.replay.specs.Rooms.{withUsed}
 use Rattle.replay.specs.declared.position.Bounds.{Bounds}
 use Rattle.replay.proofs.RecordLaws.{Entered, Recorded, Rooted, only}
 use Rattle.turns.specs.Finding.{walked, nothingFound, counted, cutOff}
@@ -79,14 +87,12 @@ size-test c f = pick (ltb 4096 (keptNodes (c .entries) (c .neqs) f))
     pick true = refl
     pick false = refl
 
-module _ (p : Prog) (bodies : ℕ → ℕ) (code : List ℕ) (ok : Accepted p bodies code) (K₀ : Configuration) (main : successors p K₀ ≡ called (inMain p K₀)) (w : BegunLeft) (b : Begins p bodies code (inMain p K₀) w)
-    (lim : Limits) (few-lines : lim .table ≤ 256) (few-steps : lim .walk ≤ 1000000) (N : ℕ) (most : N ≤ 1000) (k : Numerals) (of-steps : k .steps ≡ N) (of-walk : k .walk ≡ lim .walk) (of-table : k .table ≡ lim .table) (place : b .at .place < 65536)
+module _ (p : Prog) (bodies : ℕ → ℕ) (code : List ℕ) (ok : Accepted p bodies code) (K₀ : Configuration) (main : successors p K₀ ≡ called (inMain p K₀)) (w : BegunLeft) (c : InCells)
+    (stands : Stands p bodies code (w .heap) (w .frame) (w .q) c (inMain p K₀)) (constants : Constants code (w .heap) (c .used)) (few-used : c .used ≤ 8193)
+    (lim : Limits) (few-lines : lim .table ≤ 256) (few-steps : lim .walk ≤ 1000000) (N : ℕ) (most : N ≤ 1000) (k : Numerals) (of-steps : k .steps ≡ N) (of-walk : k .walk ≡ lim .walk) (of-table : k .table ≡ lim .table) (place : c .place < 65536)
     (sound-all : (bs : List Bool) (m : ℕ) (y : Node) → Reaches p Small N (root K₀) bs m y → Sound p (y .conf) × Scoped p (y .conf)) (a : List ℕ) (lines : LinesHeld [] 0 a (nothingFound .lines)) (long : answerRoom ≤ length a) where
-  abbrev c : InCells
-  c = b .at
-
-  abbrev v : HoldsPair (w .heap) (w .frame) (w .q) c (b .stands .names) (K₀ .cr)
-  v = b .stands .holds
+  abbrev v : HoldsPair (w .heap) (w .frame) (w .q) c (stands .names) (K₀ .cr)
+  v = stands .holds
 
   abbrev came : JobLeft
   came = walkBegun code c k (w .heap) (w .frame) (w .q) a
@@ -174,7 +180,7 @@ module _ (p : Prog) (bodies : ℕ → ℕ) (code : List ℕ) (ok : Accepted p bo
             depth = omega arith;
             inputs = omega (arith, v .inputs);
             outputs = omega (arith, v .outputs);
-            used = omega (arith, b .few);
+            used = omega (arith, few-used);
             place = place;
           }
 
@@ -188,7 +194,7 @@ module _ (p : Prog) (bodies : ℕ → ℕ) (code : List ℕ) (ok : Accepted p bo
       bottom = held .size ∙ ap length (records-one b₀)
 
       recorded : Recorded p bodies code (w .heap) b₀ y₁
-      recorded = record { frame = w .frame; q = w .q; stands = b .stands; entries = refl; sides = refl; steps = refl; room = omega (arith, b .few) }
+      recorded = record { frame = w .frame; q = w .q; stands = stands; constants = constants; entries = refl; sides = refl; steps = refl; room = omega (arith, few-used) }
 
       abbrev s₁ : PathState
       s₁ = onPath [] (taken [] atStart)
@@ -203,16 +209,16 @@ module _ (p : Prog) (bodies : ℕ → ℕ) (code : List ℕ) (ok : Accepted p bo
       leads₁ = reached-main (Entered p) entered₁
 
       low₀ : b₀ .at .used ≤ 16384
-      low₀ = omega (arith, b .few)
+      low₀ = omega (arith, few-used)
 
       walking : Walking p bodies code ok K₀ N most y₁ b₀ (length (recordCells b₀)) refl low₀ entered₀ m leads₁ refl lim few-lines bounds of-steps of-table bottom m y₁ s₁ (w .heap) (w .frame) (w .q) (replicate 1000 0) (keeping .saved) a st
       walking = record {
         holds = record {
-          stands = b .stands;
+          stands = stands;
           entered = entered₁;
           steps = refl;
           depth = refl;
-          low = omega (arith, b .few);
+          low = omega (arith, few-used);
           kept = record { older = []; last = b₀; holding = held; saves = only {used = c .used} recorded (omega arith) };
         };
         leads = leads₁;
@@ -257,10 +263,58 @@ module _ (p : Prog) (bodies : ℕ → ℕ) (code : List ℕ) (ok : Accepted p bo
         go zero z = from-cut z
         go (suc m) z = from-deep m z
 
-  -- THE LAW of the walk of a job
-  pub begun-means : Leaves (walkedOf (walkBackFrom p lim N (some K₀))) (onBegun code k a w (w .answer))
-  begun-means = rw (b .on) (go (stateOver (K₀ .cr)) refl)
+  -- the walk from main's body, its constants laid out
+  laid-means : Leaves (walkedOf (walkBackFrom p lim N (some K₀))) came
+  laid-means = go (stateOver (K₀ .cr)) refl
     where
       go : (o : Bool) → stateOver (K₀ .cr) ≡ o → Leaves (walkedOf (from o)) came
       go true e = from-large (ltb-true 4096 (nodesState (K₀ .cr)) e)
       go false e = from-small (ltb-false 4096 (nodesState (K₀ .cr)) e)
+
+-- what is linked stays so where only the table of constants changes
+bodies-agree : {p : Prog} {bodies : ℕ → ℕ} {code g : List ℕ} {f : ℕ} {ds : Prog} → ((j : ℕ) → linkAt g j ≡ linkAt code j) → BodiesLinked p bodies code f ds → BodiesLinked p bodies g f ds
+bodies-agree e noBodies = noBodies
+bodies-agree {p} {bodies} {code} e (moreBodies t r) = moreBodies (term-agrees p bodies code t (record { same = λ j l m. e j })) (bodies-agree e r)
+
+module _ (p : Prog) (bodies : ℕ → ℕ) (code : List ℕ) (ok : Accepted p bodies code) (wide : length code ≡ 24582) (K₀ : Configuration) (main : successors p K₀ ≡ called (inMain p K₀)) (w : BegunLeft) (b : Begins p bodies code (inMain p K₀) w)
+    (lim : Limits) (few-lines : lim .table ≤ 256) (few-steps : lim .walk ≤ 1000000) (N : ℕ) (most : N ≤ 1000) (k : Numerals) (of-steps : k .steps ≡ N) (of-walk : k .walk ≡ lim .walk) (of-table : k .table ≡ lim .table) (place : b .at .place < 65536)
+    (sound-all : (bs : List Bool) (m : ℕ) (y : Node) → Reaches p Small N (root K₀) bs m y → Sound p (y .conf) × Scoped p (y .conf)) (a : List ℕ) (lines : LinesHeld [] 0 a (nothingFound .lines)) (long : answerRoom ≤ length a) where
+  abbrev laid : ConstantsLeft
+  laid = constantsLaid (b .at .used) code (w .heap)
+
+  kept : Kept (b .at .used) code (w .heap) wide (b .stands .holds .heap-size)
+  kept = constants-kept (b .at .used) code (w .heap) wide (b .stands .holds .heap-size)
+
+  accepted : Accepted p bodies (laid .code)
+  accepted = record { linked = bodies-agree (kept .links) (ok .linked); formed = ok .formed; few = ok .few }
+
+  stands-laid : Stands p bodies (laid .code) (laid .heap) (w .frame) (w .q) (withUsed (b .at) (laid .used)) (inMain p K₀)
+  stands-laid =
+      let x = b .stands .holds in
+      record {
+        names = b .stands .names;
+        holds = record {
+          values = x .values;
+          typed = x .typed;
+          env = x .env;
+          held = held-kept (x .held) (kept .same) (kept .grown) (record { same = λ j l. refl });
+          inputs = x .inputs;
+          outputs = x .outputs;
+          entries = x .entries;
+          neqs = x .neqs;
+          count = x .count;
+          fits = omega (arith, kept .most, b .few);
+          heap-size = kept .whole;
+          frame-size = x .frame-size;
+          q-size = x .q-size;
+        };
+        past = b .stands .past;
+        term = term-agrees p bodies code (b .stands .term) (record { same = λ j l m. kept .links j });
+        fresh = b .stands .fresh;
+      }
+
+  -- THE LAW of the walk of a job
+  pub begun-means : Leaves (walkedOf (walkBackFrom p lim N (some K₀))) (onBegun code k a w (w .answer))
+  begun-means =
+      rw (b .on) (laid-means p bodies (laid .code) accepted K₀ main (begunLeft (On (withUsed (b .at) (laid .used))) (laid .heap) (w .frame) (w .q)) (withUsed (b .at) (laid .used)) stands-laid
+      (constants-held (b .at .used) code (w .heap) wide (b .stands .holds .heap-size)) (omega (arith, kept .most, b .few)) lim few-lines few-steps N most k of-steps of-walk of-table place sound-all a lines long)

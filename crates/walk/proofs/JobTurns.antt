@@ -7,6 +7,8 @@ use lib.ListN.{replicate}
 use Rattle.syntax.specs.declared.job_ends.JobEnds.{JobEnds}
 use Rattle.syntax.specs.declared.numerals.Numerals.{Numerals}
 use Rattle.heap.specs.declared.configuration.Configuration.{Configuration}
+use Rattle.constants.specs.Laying.{ConstantsLeft, constantsLeft, constantsLaid}
+use Rattle.replay.specs.Rooms.{withUsed}
 use Rattle.saving.specs.Saving.{saveLeft, savedTo}
 use Rattle.initial.specs.Beginning.{BegunLeft, begunLeft, begunAt}
 use Rattle.initial.specs.declared.begin.Begun.{Begun}
@@ -39,8 +41,9 @@ module _ (code : List ℕ) (body : ℕ) (jmarks jnums : List ℕ) (e : JobEnds) 
   answered-as : (x : Begun) → b ≡ x → onBegun code k a (begunLeft b h f q) x ≡ walkJob code body jmarks jnums e k a
   answered-as x i = ap (onBegun code k a (begunLeft b h f q)) (inv i) ∙ begun-as
 
-  pub job-on : {c : Configuration} {r : Walked} {a′ : List ℕ} → b ≡ On c → jobLeft r a′ ≡ walkBegun code c k h f q a → jobLeft r a′ ≡ walkJob code body jmarks jnums e k a
-  job-on {c} i w = w ∙ answered-as (On c) i
+  pub job-on : {c d : Configuration} {r : Walked} {a′ : List ℕ} {u : ℕ} {g l : List ℕ} → b ≡ On c → constantsLeft u g l ≡ constantsLaid (c .used) code h → d ≡ withUsed c u → jobLeft r a′ ≡ walkBegun g d k l f q a → jobLeft r a′ ≡ walkJob code body jmarks jnums e k a
+  job-on {c} {d} {u = u} {g = g} {l = l} i z m w =
+      w ∙ ap (λ (x : Configuration). walkBegun g x k l f q a) m ∙ ap (λ (x : ConstantsLeft). walkBegun (x .code) (withUsed c (x .used)) k (x .heap) f q a) z ∙ answered-as (On c) i
 
   pub job-none : {n : Found} {r : Walked} → b ≡ None → n ≡ nothingFound → r ≡ walked Done n → jobLeft r a ≡ walkJob code body jmarks jnums e k a
   job-none i g w = ap (λ (r : Walked). jobLeft r a) (w ∙ ap (walked Done) g) ∙ answered-as None i

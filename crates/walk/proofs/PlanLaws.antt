@@ -50,7 +50,7 @@ use Rattle.replay.specs.declared.position.Bounds.{Bounds}
 use Rattle.replay.specs.declared.position.Position.{Position}
 use Rattle.replay.proofs.RecordLaws.{Entered, Rooted, saves-more, saves-below}
 use Rattle.replay.proofs.RoomLaws.{Kept, At, room-made}
-use Rattle.replay.proofs.ReplayLaws.{Holds, Showing, showing, kept-later, choice-kept, Waiting, bring-means}
+use Rattle.replay.proofs.ReplayLaws.{Holds, at-constants, Showing, showing, kept-later, choice-kept, Waiting, bring-means}
 use Rattle.turns.specs.Finding.{walked, withLines, cutOff}
 use Rattle.turns.specs.States.{stateAt, cutAt}
 use Rattle.turns.specs.States as states
@@ -240,8 +240,8 @@ module _ (p : Prog) (bodies : ℕ → ℕ) (code : List ℕ) (ok : Accepted p bo
     plan-end d is o k =
         let g = metEnd code (st .at .node) (lim .table) (st .found .lines) (roomed .heap) (roomed .frame) q a in
         let i : st .at .node .steps ≤ 65535 = omega (arith, counted .0, steps-are) in
-        let e = end-means p bodies code y (made .stands) d is (made .entered .size) (made .entered .sound .simple) (made .entered .scoped) low lim few-lines (st .at .node .steps) (st .at .node .depth) i (withTodo [] s) a (st .found .lines) (w .found .lines) (w .found .long) in
-        let t = end-kept p bodies code y (made .stands) d is (made .entered .size) (made .entered .sound .simple) (made .entered .scoped) low lim few-lines (st .at .node .steps) (st .at .node .depth) i (withTodo [] s) a (st .found .lines) (w .found .lines) (w .found .long) in
+        let e = end-means p bodies code y (made .stands) (at-constants p bodies code ok K₀ N most y₁ b₀ base bottom low-base made) d is (made .entered .size) (made .entered .sound .simple) (made .entered .scoped) low lim few-lines (st .at .node .steps) (st .at .node .depth) i (withTodo [] s) a (st .found .lines) (w .found .lines) (w .found .long) in
+        let t = end-kept p bodies code y (made .stands) (at-constants p bodies code ok K₀ N most y₁ b₀ base bottom low-base made) d is (made .entered .size) (made .entered .sound .simple) (made .entered .scoped) low lim few-lines (st .at .node .steps) (st .at .node .depth) i (withTodo [] s) a (st .found .lines) (w .found .lines) (w .found .long) in
         let e′ : EndMeans a (atEnd lim (y .steps) (withTodo [] s) (intersect meetingOver (meetingAt y (output d)))) (g .ended) (g .answer) =
         subst (λ (j : ℕ). EndMeans a (atEnd lim j (withTodo [] s) (intersect meetingOver (meetingAt y (output d)))) (g .ended) (g .answer)) steps-are e in
         rw (extend-end m y (output d) s, plans-are, o, k) (end-plan (y .steps) (intersect meetingOver (meetingAt y (output d))) g e′ t)

@@ -13,6 +13,8 @@ use Rattle.initial.specs.declared.begin.Begun.{Begun}
 use Rattle.initial.specs.declared.begin.Begun.the-variants.{On, None, Over as BegunOver}
 use Rattle.saving.specs.Saving.{SaveLeft, savedTo}
 use Rattle.saving.specs.declared.head.Node.{Node}
+use Rattle.constants.specs.Laying.{constantsLaid}
+use Rattle.replay.specs.Rooms.{withUsed}
 use Rattle.replay.specs.declared.position.Bounds.{Bounds}
 use Rattle.turns.specs.Finding.{walked, nothingFound, counted, cutOff}
 use Rattle.turns.specs.States.{stateAt}
@@ -51,7 +53,7 @@ walkBegun code c k h f q a =
     (cond (eqb (k .steps) 0) (jobLeft (walked Done (cutOff nothingFound)) a) (cond (eqb (k .walk) 0) (jobLeft (walked Spent nothingFound) a) (walkFirst code c k h f q a)))
 
 abbrev pub onBegun : List ℕ → Numerals → List ℕ → BegunLeft → Begun → JobLeft
-onBegun code k a w (On c) = walkBegun code c k (w .heap) (w .frame) (w .q) a
+onBegun code k a w (On c) = let l = constantsLaid (c .used) code (w .heap) in walkBegun (l .code) (withUsed c (l .used)) k (l .heap) (w .frame) (w .q) a
 onBegun code k a w None = jobLeft (walked Done nothingFound) a
 onBegun code k a w BegunOver = jobLeft (walked Over nothingFound) a
 

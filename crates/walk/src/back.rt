@@ -13,7 +13,7 @@ ghost use mathlib.Core.Path.{_≡_};
 ghost use Rattle.walk.specs.Backing.{backLeft, wentBack};
 
 pub(crate) fn go_back(
-    code: &[u16; 16388],
+    code: &[u16; 24582],
     heap: &mut [u16; 65535],
     frame: &mut [u16; 12360],
     q: &mut [u16; 4096],

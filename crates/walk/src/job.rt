@@ -1,10 +1,12 @@
 // The walk of a job, in storages of its own.
 use crate::walk::walk_on;
+use constants::lay::lay_constants;
 use heap::configuration::Configuration;
 use initial::begin::Begun;
 use initial::begin::begin;
 use replay::position::Bounds;
 use replay::position::Position;
+use replay::room::with_used;
 use saving::head::Node;
 use saving::saved::save;
 use syntax::job_ends::JobEnds;
@@ -21,7 +23,7 @@ ghost use Rattle.walk.specs.Jobs.{jobLeft, walkFirst, walkBegun, walkJob
 
 // The walk behind the first transition, which leads to c and counts: c is saved below all others.
 fn walk_first(
-    code: &[u16; 16388],
+    code: &[u16; 24582],
     heap: &mut [u16; 65535],
     frame: &mut [u16; 12360],
     q: &mut [u16; 4096],
@@ -51,7 +53,7 @@ fn walk_first(
 
 // "The start state is the call of main on the inputs": 21 there comes first; it is no end, so that with N = 0 it is cut; then 23.
 fn walk_begun(
-    code: &[u16; 16388],
+    code: &[u16; 24582],
     heap: &mut [u16; 65535],
     frame: &mut [u16; 12360],
     q: &mut [u16; 4096],
@@ -73,9 +75,9 @@ fn walk_begun(
     walk_first(code, heap, frame, q, answer, c, k)
 }
 
-// "A contradictory job has no start: whole, no lines, 0 transitions."
+// "A contradictory job has no start: whole, no lines, 0 transitions." The constants are laid out behind the job, in a program of the walk's own.
 pub fn walk_job(
-    code: &[u16; 16388],
+    code: &[u16; 24582],
     body: usize,
     jmarks: &[u16],
     jnums: &[u16],
@@ -99,7 +101,19 @@ pub fn walk_job(
         false,
     );
     match b {
-        Begun::On(c) => walk_begun(code, &mut heap, &mut frame, &mut q, answer, c, k),
+        Begun::On(c) => {
+            let mut linked = *code;
+            let used = lay_constants(&mut linked, &mut heap, c.used);
+            walk_begun(
+                &linked,
+                &mut heap,
+                &mut frame,
+                &mut q,
+                answer,
+                with_used(c, used),
+                k,
+            )
+        }
         Begun::None => found::stopped(Ending::Done, nothing()),
         Begun::Over => found::stopped(Ending::Over, nothing()),
     }

@@ -35,7 +35,7 @@ fn sized_move(frame: &[u16; 12360], m: Moved) -> Moved
 
 // The transition that comes next: "23 a transition would be number W+1".
 pub(crate) fn make(
-    code: &[u16; 16388],
+    code: &[u16; 24582],
     heap: &mut [u16; 65535],
     frame: &mut [u16; 12360],
     q: &mut [u16; 4096],
@@ -59,7 +59,7 @@ pub(crate) fn make(
 
 // Whether a call stands here that is no deeper than the walk goes, with room in the heap: then nothing else is to be done first.
 pub(crate) fn is_plain_call(
-    code: &[u16; 16388],
+    code: &[u16; 24582],
     saved: &[u16; 16384],
     p: Position,
     b: Bounds,
@@ -83,7 +83,7 @@ pub(crate) fn is_plain_call(
 
 // The transition of a call.
 pub(crate) fn make_call(
-    code: &[u16; 16388],
+    code: &[u16; 24582],
     heap: &mut [u16; 65535],
     frame: &mut [u16; 12360],
     s: State,
@@ -98,6 +98,6 @@ pub(crate) fn make_call(
     let p = s.at;
     let n = p.node;
     let m = call(code, heap, frame, names_from(n.at), n.at);
-    let next = sized_move(frame, m);
-    after_move(s, next)
+    let after = sized_move(frame, m);
+    after_move(s, after)
 }

@@ -74,7 +74,7 @@ fn plan_condition(
 
 // The node expanded.
 pub(crate) fn plan_here(
-    code: &[u16; 16388],
+    code: &[u16; 24582],
     heap: &mut [u16; 65535],
     frame: &mut [u16; 12360],
     q: &mut [u16; 4096],

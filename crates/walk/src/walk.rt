@@ -18,7 +18,7 @@ ghost use Rattle.walk.specs.Walking.{nextPlanned, turnLeft, walkTurn, wa
 
 // What comes next, on this path or behind it.
 fn next_plan(
-    code: &[u16; 16388],
+    code: &[u16; 24582],
     heap: &mut [u16; 65535],
     frame: &mut [u16; 12360],
     q: &mut [u16; 4096],
@@ -40,7 +40,7 @@ fn next_plan(
 
 // A call is made at once: nothing of a plan has to be kept for it.
 fn walk_turn(
-    code: &[u16; 16388],
+    code: &[u16; 24582],
     heap: &mut [u16; 65535],
     frame: &mut [u16; 12360],
     q: &mut [u16; 4096],
@@ -67,7 +67,7 @@ fn walk_turn(
 
 // The walk from a node that has been entered.
 pub fn walk_on(
-    code: &[u16; 16388],
+    code: &[u16; 24582],
     heap: &mut [u16; 65535],
     frame: &mut [u16; 12360],
     q: &mut [u16; 4096],

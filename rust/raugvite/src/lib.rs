@@ -2,7 +2,7 @@
 //!
 //! [`list`] gives the listing of a program and a job with its lines as owned expressions, [`run`] the program run forwards on the job's inputs.
 //! [`list_in`] and [`run_in`] work in storage that the caller lends. All of them end for any bytes and any storage; what is proved of them is in
-//! docs/CONTRACTS.md, and what the boundary adds in docs/TRUST.md. A call takes up to 340 KB of stack; a thread that Rust starts has 2 MB.
+//! docs/CONTRACTS.md, and what the boundary adds in docs/TRUST.md. A call takes up to 400 KB of stack; a thread that Rust starts has 2 MB.
 mod cells;
 mod symbols;
 mod sys;

@@ -1,15 +1,8 @@
-use borrow.Author.Tests.{eq-eqb, ne-eqb}
+use borrow.Author.Tests.{eq-eqb, ne-eqb, lt-ltb, le-ltb}
 use Rattle.values.specs.Values.{valueAt}
 use borrow.Author.Needs.{needs}
 use Rattle.values.proofs.value.value.Statement.{statement}
 use Rattle.values.proofs.value.value.Tie as tie
-use Rattle.values.proofs.value.value.Reads as reads
-use Rattle.values.proofs.value.value.Lts as lts
-use Rattle.linking.proofs.code.link_at.Reads as link-at-reads
-use Rattle.values.proofs.tokens.entry_at.Reads as entry-at-reads
-use Rattle.values.proofs.tokens.place_at.Reads as place-at-reads
-use Rattle.values.proofs.tokens.push_tokens.Reads as push-tokens-reads
-use Rattle.values.proofs.value.made.Reads as made-reads
 
 link-at-requires : tie.Need-link-at-requires
 link-at-requires c κs = search needs
@@ -24,6 +17,13 @@ returns : tie.Need-returns
 unfolding valueAt
 returns c = rw (← (c .before .before .before .link-at .ensures), eq-eqb _ _ (c .before .before .if1 .taken), ← (c .before .place-at .ensures), ← (c .entry-at .ensures))
 
+constant-at-requires : tie.Need-constant-at-requires
+constant-at-requires c κs = search needs
+
+returns-2 : tie.Need-returns-2
+unfolding valueAt
+returns-2 c = rw (← (c .before .before .before .before .link-at .ensures), ne-eqb _ _ (c .before .before .before .if1 .left), ← (c .before .before .constant-at .ensures), lt-ltb _ _ (c .if2 .taken))
+
 cast-push-tokens : tie.Need-cast-push-tokens
 cast-push-tokens c = search needs
 
@@ -33,19 +33,11 @@ push-tokens-requires c κs = search needs
 made-requires : tie.Need-made-requires
 made-requires c κs = search needs
 
-returns-2 : tie.Need-returns-2
+returns-3 : tie.Need-returns-3
 unfolding valueAt
-returns-2 c = rw (← (c .before .before .before .before .link-at .ensures), ne-eqb _ _ (c .before .before .before .if1 .left), ← (c .before .push-tokens .ensures), ← (c .made .ensures))
+returns-3 c = rw (← (c .before .before .before .before .before .before .before .link-at .ensures), ne-eqb _ _ (c .before .before .before .before .before .before .if1 .left), ← (c .before .before .before .before .before .constant-at .ensures), le-ltb _ _ (c .before .before .before .if2 .left), ← (c .before .push-tokens .ensures), ← (c .made .ensures))
 
 pub value-spec : {M : Type 1} → statement M
 value-spec =
     tie.close
-    (tie.spec
-    link-at-requires
-    place-at-requires
-    entry-at-requires
-    returns
-    cast-push-tokens
-    push-tokens-requires
-    made-requires
-    returns-2)
+    (tie.spec link-at-requires place-at-requires entry-at-requires returns constant-at-requires returns-2 cast-push-tokens push-tokens-requires made-requires returns-3)

@@ -2,18 +2,18 @@ use Rattle.walk.proofs.JobTurns.{job-on, job-none, job-over}
 use borrow.Author.Needs.{needs}
 use Rattle.walk.proofs.job.walk_job.Statement.{statement}
 use Rattle.walk.proofs.job.walk_job.Tie as tie
-use Rattle.walk.proofs.job.walk_job.Reads as reads
-use Rattle.walk.proofs.job.walk_job.Lts as lts
-use Rattle.initial.proofs.begin.begin.Reads as begin-reads
-use Rattle.turns.proofs.found.nothing.Reads as nothing-reads
-use Rattle.turns.proofs.found.stopped.Reads as stopped-reads
-use Rattle.walk.proofs.job.walk_begun.Reads as walk-begun-reads
 
 begin-requires : tie.Need-begin-requires
 begin-requires c κs = search needs
 
 enum-known-b : tie.Need-enum-known-b
 enum-known-b c = search needs
+
+lay-constants-requires : tie.Need-lay-constants-requires
+lay-constants-requires c κs = search needs
+
+with-used-requires : tie.Need-with-used-requires
+with-used-requires c κs = search needs
 
 walk-begun-requires : tie.Need-walk-begun-requires
 walk-begun-requires c κs = search needs
@@ -40,7 +40,8 @@ same-length : tie.Need-same-length
 same-length c = search needs
 
 returns : tie.Need-returns
-returns c = job-on _ _ _ _ _ _ _ (c .before .before .before .before .before .before .before .before .before .before .begin .ensures) (c .before .before .before .before .before .before .before .before .b .given .1) (c .before .before .walk-begun .ensures)
+returns c =
+    job-on _ _ _ _ _ _ _ (c .before .before .before .before .before .before .before .before .before .before .before .before .before .before .before .before .begin .ensures) (c .before .before .before .before .before .before .before .before .before .before .before .before .before .before .b .given .1) (c .before .before .before .before .before .before .before .before .before .lay-constants .ensures) (c .before .before .before .with-used .ensures) (c .before .before .walk-begun .ensures)
 
 returns-2 : tie.Need-returns-2
 returns-2 c = job-none _ _ _ _ _ _ _ (c .before .before .before .before .begin .ensures) (c .before .before .enum-told .given .1) (c .before .nothing .ensures) (c .stopped .ensures)
@@ -54,6 +55,8 @@ walk-job-spec =
     (tie.spec
     begin-requires
     enum-known-b
+    lay-constants-requires
+    with-used-requires
     walk-begun-requires
     enum-told
     nothing-requires

@@ -1,0 +1,2 @@
+pub mod LayTurns
+pub mod ConstantLaws
