@@ -26,10 +26,11 @@ int main(int count, char **words) {
   size_t work_length = raugvite_list_work(), answer_length = raugvite_list_answer();
   uint16_t *work = calloc(work_length, sizeof *work), *answer = calloc(answer_length, sizeof *answer);
   if (!work || !answer) return 1;
-  size_t said[2];
-  size_t kind = raugvite_list(program, p, job, j, work, work_length, answer, answer_length, said, 2);
-  size_t n = PAGE;
-  for (size_t from = 0; n == PAGE; from += n) {
+  size_t said[3];
+  size_t kind = raugvite_list_print(program, p, job, j, work, work_length, answer, answer_length, said, 3, page, PAGE);
+  size_t n = said[2];
+  fwrite(page, 1, n, stdout);
+  for (size_t from = n; n == PAGE; from += n) {
     n = raugvite_print_list(program, p, job, j, kind, said[0], said[1], answer, answer_length, from, page, PAGE);
     fwrite(page, 1, n, stdout);
   }

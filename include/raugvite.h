@@ -49,8 +49,13 @@ size_t raugvite_run_answer(void);
 size_t raugvite_list(const uint8_t *program, size_t program_length, const uint8_t *job, size_t job_length, uint16_t *work, size_t work_length,
                      uint16_t *answer, size_t answer_length, size_t *said, size_t said_length);
 
-/* The same for a run of the program on the job's inputs: after case 0 the value stands in `answer`, zeros behind it; after 1 and 2 `answer` is
- * zero. */
+/* raugvite_list, and in `out` the printed text of what it leaves, from its first byte on, as many bytes as there is room for, zeros behind
+ * them; said[2] is how many they are. Where `out` is full the rest is printed by raugvite_print_list from said[2] on. The texts are read once. */
+size_t raugvite_list_print(const uint8_t *program, size_t program_length, const uint8_t *job, size_t job_length, uint16_t *work, size_t work_length,
+                           uint16_t *answer, size_t answer_length, size_t *said, size_t said_length, uint8_t *out, size_t out_length);
+
+/* As raugvite_list, for a run of the program on the job's inputs: after case 0 the value stands in `answer`, zeros behind it; after 1 and 2
+ * `answer` is zero. */
 size_t raugvite_run(const uint8_t *program, size_t program_length, const uint8_t *job, size_t job_length, uint16_t *work, size_t work_length,
                     uint16_t *answer, size_t answer_length, size_t *said, size_t said_length);
 

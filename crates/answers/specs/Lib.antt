@@ -1,3 +1,4 @@
+pub mod Headings
 pub mod ListEnding
 pub mod ListNumbers
 pub mod RunNumbers

@@ -28,14 +28,14 @@ use Rattle.linking.specs.Linked.{placeIn, ExpLinked, symLinked, eLinked, aLinke
 use Rattle.linking.specs.Places.{envOf}
 use Rattle.linking.proofs.PlaceLaws.{lookup-a}
 use Rattle.values.proofs.ValueLaws.{held-at, Typed, typed-length, atom-typed, Known}
-use Rattle.values.proofs.ArgumentLaws.{past-linked}
+use Rattle.values.proofs.ValueLaws.{past-linked}
 use Rattle.values.proofs.StateLaws.{Stands, HoldsPair, known-in-scope}
 use Rattle.values.proofs.ContractionLaws.{few-entries}
 use Rattle.values.specs.Names.{namesFrom}
 use Rattle.atoms.specs.Atoms.{firstCell, atomAt, sidesAt}
 
 held-tail : {h f : List ℕ} {used i : ℕ} {t : Exp} {ts : List Exp} → Held h used f i (t ∷ ts) → Held h used f (i + 1) ts
-held-tail (frame.Held.more x r) = r
+held-tail (frame.Held.more x k r) = r
 
 -- one cell
 one-cell : (h : List ℕ) (i n x : ℕ) → n ≡ 1 → cellsAt n i h ≡ x ∷ [] → getD h i 0 ≡ x

@@ -1,9 +1,10 @@
-// The listing of two texts, and its print.
+// The listing of two texts, its print, and both at once.
 use crate::numbers::store;
 use answers::list::answer_from;
 use answers::list::case_of;
 use answers::list::first_of;
 use answers::list::second_of;
+use print::first::list_first;
 use print::list::print_list;
 use resolve::list;
 ghost use mathlib.Core.Path.{_≡_};
@@ -28,6 +29,26 @@ pub extern "C" fn raugvite_list(
     let a = list::list(program, job, work, answer);
     store(said, 0, first_of(a));
     store(said, 1, second_of(a));
+    case_of(a)
+}
+
+// `print::first::list_first`: the case of its answer, and in `said` the two numbers of the case and how many bytes of `out` are text.
+#[no_mangle]
+pub extern "C" fn raugvite_list_print(
+    program: &[u8],
+    job: &[u8],
+    work: &mut [u16],
+    answer: &mut [u16],
+    said: &mut [usize],
+    out: &mut [u8],
+) -> usize
+    ensures { λ r. ⌜ (let w = listLeft (now (program .entry)) (now (job .entry)) (now (work .entry)) (now (answer .entry)) in let text = listedText (now (program .entry)) (now (job .entry)) (w .cells) (w .answer) in (r ≡ caseOf (w .answer)) × (now (work .exit) ≡ w .work) × (now (answer .exit) ≡ w .cells) × (now (said .exit) ≡ set (set (set (now (said .entry)) 0 (firstOf (w .answer))) 1 (secondOf (w .answer))) 2 (min (length (now (out .entry))) (length text))) × (now (out .exit) ≡ windowed (length (now (out .entry))) 0 text)) ⌝ }
+{
+    let listed = list_first(program, job, work, answer, out);
+    let a = listed.answer;
+    store(said, 0, first_of(a));
+    store(said, 1, second_of(a));
+    store(said, 2, listed.bytes);
     case_of(a)
 }
 

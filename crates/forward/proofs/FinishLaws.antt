@@ -32,7 +32,8 @@ use Rattle.linking.specs.Linked.{ExpLinked, TermLinked}
 use Rattle.linking.specs.Places.{envOf}
 use Rattle.constants.proofs.ConstantLaws.{NoConstants}
 use Rattle.values.proofs.ValueLaws.{Typed, Known}
-use Rattle.values.proofs.ArgumentLaws.{past-linked}
+use Rattle.values.proofs.ValueLaws.{past-linked}
+use Rattle.heap.proofs.HeapLaws.{nodes-positive}
 use Rattle.values.proofs.StateLaws.{trees, nodes-length, Stands}
 use Rattle.values.proofs.PairLaws.{state-nodes, entries-few}
 use Rattle.initial.proofs.EmbedLaws.{run-nodes}
@@ -68,17 +69,12 @@ module _ {p : Prog} {bodies : ℕ → ℕ} {code : List ℕ} {sc : List Param} {
   ends-is (conditional (eqa a b) s t) x w = let a = same-at x in rw (a .mark)
   ends-is (conditional (consp e h l y) s t) x w = let a = test-at x in rw (a .mark)
 
-nodes-positive : (t : Exp) → 1 ≤ nodes t
-nodes-positive (atm y) = omega arith
-nodes-positive (evar x) = omega arith
-nodes-positive (pair c d) = omega arith
-
 -- each entry has a node
 some-nodes : {h f : List ℕ} {used i : ℕ} {ts : List Exp} → Held h used f i ts → (k : ℕ) → k ≤ length ts → k ≤ nodesFrom k i f
 unfolding nodesFrom
 some-nodes x zero l = omega arith
 some-nodes frame.Held.none (suc k) l = absurd (omega arith)
-some-nodes (frame.Held.more {t = t} y r) (suc k) l = omega (arith, holds-nodes y, nodes-positive t, some-nodes r k (omega arith))
+some-nodes (frame.Held.more {t = t} y kn r) (suc k) l = omega (arith, holds-nodes y, nodes-positive t, some-nodes r k (omega arith))
 
 module _ (p : Prog) (bodies : ℕ → ℕ) (code : List ℕ) (ok : Accepted p bodies code) (empty : NoConstants code) (is : List Value) {h f q : List ℕ} {c : InCells} (t : Term) (σ : ValueEnv) (x : Stands p bodies code h f q c (at p bodies code ok empty is t σ)) where
   tree-nodes : nodesAll (trees (at p bodies code ok empty is t σ .cr) (x .holds .values)) ≡ suc (nodesNext is (go t σ))

@@ -14,7 +14,7 @@ use Rattle.sets.specs.declared.fill.Filled.{Filled}
 use Rattle.sets.specs.declared.fill.Filled.the-variants.{Done, Over}
 use Rattle.sets.proofs.CellLaws.{cells-nodes}
 use Rattle.heap.specs.declared.configuration.Configuration.{Configuration as InCells}
-use Rattle.heap.proofs.HeapLaws.{Holds}
+use Rattle.heap.proofs.HeapLaws.{Holds, nodes-positive}
 use Rattle.heap.proofs.NodeLaws.{holds-nodes}
 use Rattle.linking.specs.Code.{link, linkAt}
 use Rattle.linking.specs.Linked.{placeIn, ExpLinked, symLinked, eLinked, aLinked, consLinked}
@@ -35,7 +35,8 @@ pub record SourceAt (B : ℕ) (h : List ℕ) (v : Exp) (w : ValueLeft) : Type 0 
   pub to : ℕ
   pub used : ℕ
   pub now : ℕ
-  pub done : w .answer ≡ At from to used
+  pub known : ℕ
+  pub done : w .answer ≡ At from to used known
   pub holds : Holds (w .heap) now from to v
   pub fits : now ≤ 65535
   pub kept : Kept B h (w .heap)
@@ -43,11 +44,6 @@ pub record SourceAt (B : ℕ) (h : List ℕ) (v : Exp) (w : ValueLeft) : Type 0 
 -- or the heap has no room for it
 abbrev pub Source : ℕ → List ℕ → Exp → ValueLeft → Type 0
 Source B h v w = ((w .answer ≡ ValuedOver) × (4096 < nodes v)) ⊎ SourceAt B h v w
-
-nodes-positive : (t : Exp) → 1 ≤ nodes t
-nodes-positive (atm y) = omega arith
-nodes-positive (evar x) = omega arith
-nodes-positive (pair c d) = omega arith
 
 forth : {g : List ℕ} {now from to : ℕ} {t : Exp} → Holds g now from to t → from ≤ to
 forth {t = t} x = omega (arith, holds-nodes x, nodes-positive t)

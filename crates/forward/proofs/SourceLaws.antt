@@ -28,7 +28,8 @@ use Rattle.values.specs.Names.{namesFrom}
 use Rattle.values.specs.Values.{ValueLeft, valueLeft, valueAt}
 use Rattle.values.specs.declared.value.Valued.the-variants.{At}
 use Rattle.values.proofs.ValueLaws.{typed-length, Known, valued-name}
-use Rattle.values.proofs.ArgumentLaws.{AllKnown, past-linked}
+use Rattle.values.proofs.ArgumentLaws.{AllKnown}
+use Rattle.values.proofs.ValueLaws.{past-linked}
 use Rattle.values.proofs.RoomLaws.{value-outcome}
 use Rattle.values.proofs.RoomLaws as values
 use Rattle.values.proofs.StateLaws.{HoldsPair}
@@ -80,8 +81,8 @@ bound-source B h p v ws most q l w u s t = go (ℕ-discrete q p)
     go (no n) = let o = with-other p v ws most (atm (sym 0)) q n l in rw (ne-eqb q p n) (subst (λ (y : Exp). Source B h y u) (inv (o .1)) (t (o .0)))
 
 -- a range that is there
-at-source : {B : ℕ} {h g : List ℕ} {from to : ℕ} {v : Exp} → Holds h B from to v → B ≤ 65535 → Kept B h g → Source B h v (valueLeft (At from to B) g)
-at-source {B} {h} {g} {from} {to} x l k = inr (record { from = from; to = to; used = B; now = B; done = refl; holds = holds-below x (k .same) (omega arith); fits = l; kept = k })
+at-source : {B : ℕ} {h g : List ℕ} {from to : ℕ} {v : Exp} → Holds h B from to v → B ≤ 65535 → Kept B h g → Source B h v (valueLeft (At from to B 0) g)
+at-source {B} {h} {g} {from} {to} x l k = inr (record { from = from; to = to; used = B; now = B; known = 0; done = refl; holds = holds-below x (k .same) (omega arith); fits = l; kept = k })
 
 -- the arguments of a call, by their places
 argument-linked : {code : List ℕ} {sc : List Param} {i j : ℕ} {ds : List Exp} → ExpsLinked code sc i ds j → AllKnown sc ds → (q : ℕ) → q < length ds → (d : Exp) →
@@ -127,7 +128,7 @@ module _ (code : List ℕ) (empty : NoConstants code) {h f q : List ℕ} {c : In
     own-source : (n : ℕ) → n < length vs → (j p : ℕ) → linkAt code j ≡ link 2 n 0 p → Source B g (getD vs n (atm (sym 0))) (ownAt code c j e f)
     own-source n l j p i =
         let v = valued-name code f (namesFrom c) e (c .used) names vs (x .typed) held-here slots j n p (getD vs n (atm (sym 0))) (k .size) (x .fits) i l refl in
-        inr (record { from = v .from; to = v .to; used = v .now; now = v .now; done = v .done; holds = v .holds; fits = v .fits; kept = rw (own-heap j n p i) k })
+        inr (record { from = v .from; to = v .to; used = v .now; now = v .now; known = v .known; done = v .done; holds = v .holds; fits = v .fits; kept = rw (own-heap j n p i) k })
 
   -- an expression of the program
   exp-source : (e : List ℕ) → Kept (c .used) g e → {i : ℕ} {t : Exp} {j : ℕ} → ExpLinked code names i t j → Known names t → Source (c .used) g (apply σ t) (ownAt code c i e f)
@@ -140,6 +141,7 @@ module _ (code : List ℕ) (empty : NoConstants code) {h f q : List ℕ} {c : In
         to = v .to;
         used = v .now;
         now = v .now;
+        known = v .known;
         done = v .done;
         holds = v .holds;
         fits = v .fits;
@@ -207,14 +209,14 @@ module _ (code : List ℕ) (empty : NoConstants code) {h f q : List ℕ} {c : In
       pub atom-sources : (from to : ℕ) (y : AtomicExp) → Holds g now from to (atm y) → Sources code c (Test (Atom from to now)) f now g (withValue (placeIn (pa n) names) (atm y) vs)
       atom-sources from to y at i l j p is e kept =
           subst (λ (w : ValueLeft). Source now g (getD (withValue (placeIn (pa n) names) (atm y) vs) i (atm (sym 0))) w) (inv (tested-is (Atom from to now) j i p is e))
-          (bound-source now g (placeIn (pa n) names) (atm y) vs (omega (arith, place-most (pa n) names, typed-length (x .typed))) i l (valueLeft (At from to now) e) (ownAt code c j e f) (at-source at in-heap kept)
+          (bound-source now g (placeIn (pa n) names) (atm y) vs (omega (arith, place-most (pa n) names, typed-length (x .typed))) i l (valueLeft (At from to now 0) e) (ownAt code c j e f) (at-source at in-heap kept)
           (λ o. own-source now above e kept i o j p is))
 
       pub pair-sources : (from mid to : ℕ) (a b : Exp) → Holds g now from mid a → Holds g now mid to b → Sources code c (Test (Pair from mid to now)) f now g (twoParts a b)
       pair-sources from mid to a b head tail i l j p is e kept =
           subst (λ (w : ValueLeft). Source now g (getD (twoParts a b) i (atm (sym 0))) w) (inv (tested-is (Pair from mid to now) j i p is e))
-          (bound-source now g (placeIn (pe k) first) b (headPart a) (tail-most a) i l (valueLeft (At mid to now) e) (cond (eqb i (placeIn (pe m) names)) (valueLeft (At from mid now) e) (ownAt code c j e f)) (at-source tail in-heap kept)
-          (λ o. bound-source now g (placeIn (pe m) names) a vs head-most i o (valueLeft (At from mid now) e) (ownAt code c j e f) (at-source head in-heap kept) (λ r. own-source now above e kept i r j p is)))
+          (bound-source now g (placeIn (pe k) first) b (headPart a) (tail-most a) i l (valueLeft (At mid to now 0) e) (cond (eqb i (placeIn (pe m) names)) (valueLeft (At from mid now 0) e) (ownAt code c j e f)) (at-source tail in-heap kept)
+          (λ o. bound-source now g (placeIn (pe m) names) a vs head-most i o (valueLeft (At from mid now 0) e) (ownAt code c j e f) (at-source head in-heap kept) (λ r. own-source now above e kept i r j p is)))
 
     -- a `cons` of the program whose value has no room
     pub large-sources : {a b : Exp} → ExpLinked code names (c .place + 4) (pair a b) (T .names-from) → Known names (pair a b) → Sources code c (Test Large) f (c .used) g (twoParts (apply σ a) (apply σ b))

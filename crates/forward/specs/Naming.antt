@@ -41,9 +41,9 @@ partIndex code c b q j = cond (eqb q (b .tail)) (linkAt code (testAt c + 2) .pas
 
 -- by what a `cons?` tests
 abbrev pub testedBy : List ℕ → Configuration → Binders → Tested → ℕ → ℕ → List ℕ → List ℕ → ValueLeft
-testedBy code c b (Atom from to used) q j h f = cond (eqb q (b .atom)) (valueLeft (At from to used) h) (ownAt code c j h f)
+testedBy code c b (Atom from to used) q j h f = cond (eqb q (b .atom)) (valueLeft (At from to used 0) h) (ownAt code c j h f)
 testedBy code c b (Pair from mid to used) q j h f =
-    cond (eqb q (b .tail)) (valueLeft (At mid to used) h) (cond (eqb q (b .head)) (valueLeft (At from mid used) h) (ownAt code c j h f))
+    cond (eqb q (b .tail)) (valueLeft (At mid to used 0) h) (cond (eqb q (b .head)) (valueLeft (At from mid used 0) h) (ownAt code c j h f))
 testedBy code c b (Variable x) q j h f = valueLeft Over h
 testedBy code c b Large q j h f = ownAt code c (partIndex code c b q j) h f
 

@@ -27,7 +27,7 @@ rangePut from to at limit h d =
     cond (ltb limit at) (fillAnswer Over d) (cond (ltb (limit - at) n) (fillAnswer Over d) (fillAnswer (Done (at + n)) (copied h from n d at .cells)))
 
 abbrev pub valuePut : Valued → ℕ → ℕ → List ℕ → List ℕ → FillAnswer
-valuePut (At from to used) at limit h d = rangePut from to at limit h d
+valuePut (At from to used known) at limit h d = rangePut from to at limit h d
 valuePut ValuedOver at limit h d = fillAnswer Over d
 
 -- an answer, and what is left in heap and answer storage

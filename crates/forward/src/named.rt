@@ -120,7 +120,12 @@ fn tested_value(
     match t {
         Tested::Atom { from, to, used } => {
             if q == b.atom {
-                return Valued::At { from, to, used };
+                return Valued::At {
+                    from,
+                    to,
+                    used,
+                    known: 0,
+                };
             }
             own_value(code, heap, frame, c, j)
         }
@@ -135,6 +140,7 @@ fn tested_value(
                     from: mid,
                     to: to,
                     used: used,
+                    known: 0,
                 };
             }
             if q == b.head {
@@ -142,6 +148,7 @@ fn tested_value(
                     from: from,
                     to: mid,
                     used: used,
+                    known: 0,
                 };
             }
             own_value(code, heap, frame, c, j)

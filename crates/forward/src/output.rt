@@ -50,7 +50,12 @@ fn put_value(heap: &[u16; 65535], v: Valued, answer: &mut [u16], at: usize, limi
     ensures { λ r. ⌜ fillAnswer r (now (answer .exit)) ≡ valuePut v at limit (now (heap .entry)) (now (answer .entry)) ⌝ }
 {
     match v {
-        Valued::At { from, to, used: _ } => put_range(heap, from, to, answer, at, limit),
+        Valued::At {
+            from,
+            to,
+            used: _,
+            known: _,
+        } => put_range(heap, from, to, answer, at, limit),
         Valued::Over => Filled::Over,
     }
 }

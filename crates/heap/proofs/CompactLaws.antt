@@ -12,12 +12,13 @@ use Rattle.sets.specs.Cells.{cells}
 use Rattle.sets.specs.Fill.{FillAnswer}
 use Rattle.sets.specs.declared.fill.Filled.the-variants.{Done}
 use Rattle.runs.specs.Runs.{cellsAt, run, appended}
-use Rattle.heap.specs.Entries.{entry, entryFrom, entryTo}
+use Rattle.heap.specs.Entries.{entry, entryKnown, entryFrom, entryTo}
 use Rattle.heap.specs.Contracted.{Stores, stores, onwardFrom}
 use Rattle.heap.specs.Compacting.{relocatedEntry, relocatedFrom, cellsMoved, Compaction, movedStores, compacted}
 use Rattle.runs.proofs.RunLaws.{Below, below-self, below-sets, length-cellsAt}
 use Rattle.heap.proofs.HeapLaws.{Holds, holds-below, sets-cells, Grown, append-means}
-use Rattle.heap.proofs.FrameLaws.{Behind, entry-length, entry-before, entry-behind, entry-from, entry-to, held-kept, Held, none, more}
+use Rattle.heap.proofs.KnownLaws.{KnownOf}
+use Rattle.heap.proofs.FrameLaws.{Behind, entry-length, entry-before, entry-behind, entry-known, entry-from, entry-to, known-kept, held-kept, Held, none, more}
 
 -- turns of `relocate_entries`
 module _ (i end floor down used : ℕ) (h f : List ℕ) where
@@ -37,7 +38,7 @@ pub data Placed (h : List ℕ) (used floor down from to : ℕ) (t : Exp) : Type 
 
 pub data AllPlaced (h : List ℕ) (used floor down : ℕ) (f : List ℕ) : ℕ → List Exp → Type 0 where
   noneP : {i : ℕ} → AllPlaced h used floor down f i []
-  moreP : {i : ℕ} {t : Exp} {ts : List Exp} → Placed h used floor down (entryFrom f i) (entryTo f i) t → AllPlaced h used floor down f (i + 1) ts → AllPlaced h used floor down f i (t ∷ ts)
+  moreP : {i : ℕ} {t : Exp} {ts : List Exp} → Placed h used floor down (entryFrom f i) (entryTo f i) t → KnownOf (entryKnown f i) t → AllPlaced h used floor down f (i + 1) ts → AllPlaced h used floor down f i (t ∷ ts)
 
 placed-below : {h h′ : List ℕ} {used k floor down from to : ℕ} {t : Exp} → Placed h used floor down from to t → Below used h′ h → floor ≤ used → used ≤ k → Placed h′ k floor down from to t
 placed-below (stays x) b l m = stays (holds-below x (record { same = λ j p. b .same j (omega arith) }) (omega arith))
@@ -57,7 +58,7 @@ pub record Relocated (h f : List ℕ) (used floor down i n : ℕ) (ts : List Exp
   pub holds : AllPlaced (w .heap) now floor down (w .frame) i ts
 
 module _ (h f : List ℕ) (used floor down i : ℕ) (whole : length h ≡ 65535) (above : floor + down ≤ used) (in-frame : 3 * (i + 1) ≤ length f) (t : Exp)
-    (held : Holds h used (entryFrom f i) (entryTo f i) t) (room : used + nodes t ≤ 65535) where
+    (held : Holds h used (entryFrom f i) (entryTo f i) t) (known : KnownOf (entryKnown f i) t) (room : used + nodes t ≤ 65535) where
   stayed : entryTo f i ≤ floor → Relocated h f used floor down i 1 (t ∷ []) (stores (Done used) h f)
   stayed l = record {
     now = used;
@@ -69,19 +70,20 @@ module _ (h f : List ℕ) (used floor down i : ℕ) (whole : length h ≡ 65535)
     before = below-self;
     behind = record { same = λ j m. refl };
     entries = refl;
-    holds = moreP (stays (record { below = l; is = held .is })) noneP;
+    holds = moreP (stays (record { below = l; is = held .is })) known noneP;
   }
 
-  moved : (k key : ℕ) (w : FillAnswer) → k ≡ used + nodes t → Grown h used t w →
-      Relocated h f used floor down i 1 (t ∷ []) (stores (Done k) (w .cells) (entry i key (used - down) (k - down) f))
-  moved k key w e g =
-      let p : entryFrom (entry i key (used - down) (k - down) f) i ≡ used - down = entry-from i key (used - down) (k - down) f in-frame ∙ omega arith in
-      let q : entryTo (entry i key (used - down) (k - down) f) i ≡ k - down = entry-to i key (used - down) (k - down) f in-frame ∙ omega arith in
+  moved : (k : ℕ) (w : FillAnswer) → k ≡ used + nodes t → Grown h used t w →
+      Relocated h f used floor down i 1 (t ∷ []) (stores (Done k) (w .cells) (entry i (entryKnown f i) (used - down) (k - down) f))
+  moved k w e g =
+      let p : entryFrom (entry i (entryKnown f i) (used - down) (k - down) f) i ≡ used - down = entry-from i (entryKnown f i) (used - down) (k - down) f in-frame ∙ omega arith in
+      let q : entryTo (entry i (entryKnown f i) (used - down) (k - down) f) i ≡ k - down = entry-to i (entryKnown f i) (used - down) (k - down) f in-frame ∙ omega arith in
       let u : used - down + down ≡ used = omega arith in
       let v : k - down + down ≡ used + nodes t = omega arith in
       let a : Holds (w .cells) k (used - down + down) (k - down + down) t = rw (u, v, e) (g .holds) in
-      let b : Placed (w .cells) k floor down (entryFrom (entry i key (used - down) (k - down) f) i) (entryTo (entry i key (used - down) (k - down) f) i) t =
+      let b : Placed (w .cells) k floor down (entryFrom (entry i (entryKnown f i) (used - down) (k - down) f) i) (entryTo (entry i (entryKnown f i) (used - down) (k - down) f) i) t =
       rw (p, q) (moves (omega arith) a) in
+      let n : entryKnown (entry i (entryKnown f i) (used - down) (k - down) f) i ≡ entryKnown f i = entry-known i (entryKnown f i) (used - down) (k - down) f in-frame in
       record {
         now = k;
         done = refl;
@@ -89,10 +91,10 @@ module _ (h f : List ℕ) (used floor down i : ℕ) (whole : length h ≡ 65535)
         most = omega arith;
         same = g .same;
         size = g .size;
-        before = entry-before i key (used - down) (k - down) f;
-        behind = entry-behind i key (used - down) (k - down) f;
-        entries = entry-length i key (used - down) (k - down) f;
-        holds = moreP b noneP;
+        before = entry-before i (entryKnown f i) (used - down) (k - down) f;
+        behind = entry-behind i (entryKnown f i) (used - down) (k - down) f;
+        entries = entry-length i (entryKnown f i) (used - down) (k - down) f;
+        holds = moreP b (known-kept f (entry i (entryKnown f i) (used - down) (k - down) f) i known n) noneP;
       }
 
   -- one entry
@@ -104,7 +106,7 @@ module _ (h f : List ℕ) (used floor down i : ℕ) (whole : length h ≡ 65535)
       pick (yes l) = rw (le-leb (entryTo f i) floor l) (stayed l)
       pick (no l) =
           let g = append-means h whole used held room in
-          rw (lt-leb (entryTo f i) floor (omega arith), g .done) (moved (used + nodes t) (getD f (3 * i) 0) (appended (entryFrom f i) (entryTo f i) used h) refl g)
+          rw (lt-leb (entryTo f i) floor (omega arith), g .done) (moved (used + nodes t) (appended (entryFrom f i) (entryTo f i) used h) refl g)
 
 -- one entry and those behind it
 joined : (h f : List ℕ) (used floor down i n : ℕ) (t : Exp) (ts : List Exp) → floor ≤ used → (w : Stores) (a : Relocated h f used floor down i 1 (t ∷ []) w) (u : Stores) →
@@ -124,11 +126,14 @@ joined h f used floor down i n t ts low w a u b =
       before = record { same = λ j l. b .before .same j (omega arith) ∙ a .before .same j l };
       behind = record { same = λ j l. b .behind .same j (omega arith) ∙ a .behind .same j (omega arith) };
       entries = b .entries ∙ a .entries;
-      holds = moreP x (b .holds);
+      holds = moreP x (known-kept (w .frame) (u .frame) i (first-known (a .holds)) (b .before .same (3 * i) (omega arith))) (b .holds);
     }
   where
     first : {g : List ℕ} {k : ℕ} {e : List ℕ} → AllPlaced g k floor down e i (t ∷ []) → Placed g k floor down (entryFrom e i) (entryTo e i) t
-    first (moreP x r) = x
+    first (moreP x k r) = x
+
+    first-known : {g : List ℕ} {k : ℕ} {e : List ℕ} → AllPlaced g k floor down e i (t ∷ []) → KnownOf (entryKnown e i) t
+    first-known (moreP x k r) = k
 
 module _ (floor down : ℕ) where
   abbrev Means : List Exp → Type 0
@@ -153,8 +158,8 @@ module _ (floor down : ℕ) where
 
   means-more : (t : Exp) (ts : List Exp) → Means ts → Means (t ∷ ts)
   unfolding relocatedFrom
-  means-more t ts again i used h f whole above room in-frame (more e r) =
-      rest (relocatedEntry i floor down used h f) (relocate-one h f used floor down i whole above (omega arith) t e (omega arith))
+  means-more t ts again i used h f whole above room in-frame (more e k r) =
+      rest (relocatedEntry i floor down used h f) (relocate-one h f used floor down i whole above (omega arith) t e k (omega arith))
     where
       rest : (w : Stores) → Relocated h f used floor down i 1 (t ∷ []) w →
           Relocated h f used floor down i (suc (length ts)) (t ∷ ts) (onwardFrom (relocatedFrom (length ts) (i + 1) floor down) w)
@@ -246,7 +251,7 @@ module _ (h : List ℕ) (whole : length h ≡ 65535) (floor used now : ℕ) (low
 
   all-lowered : {f : List ℕ} {i : ℕ} {ts : List Exp} → AllPlaced h now floor down f i ts → Held last (now - down) f i ts
   all-lowered noneP = none
-  all-lowered (moreP x r) = more (lowered x) (all-lowered r)
+  all-lowered (moreP x k r) = more (lowered x) k (all-lowered r)
 
 -- THE LAW of compaction
 pub record Compacted (h f : List ℕ) (floor n : ℕ) (ts : List Exp) (w : Compaction) : Type 0 where

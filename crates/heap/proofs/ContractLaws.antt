@@ -1,32 +1,38 @@
 -- `contract_entry` and `contract_entries` by what their calls leave.
-use Prim.Native.Nat.{ℕ, zero, suc, _+_, _-_, _*_, _≤_, _<_, min}
-use mathlib.Core.Path.{_≡_, refl, ap, _∙_, sym as inv}
+use Prim.Native.Nat.{ℕ, zero, suc, _+_, _-_, _*_, _%_, _≤_, _<_, min}
+use mathlib.Core.Path.{_≡_, refl, ap, ap₂, _∙_, sym as inv}
 use mathlib.Core.Bool.{true, false}
 use mathlib.Core.List.{List}
 use native.Mathlib.Omega.{arith}
 use lib.ListN.{getD}
-use borrow.Author.Tests.{lt-ltb, le-ltb}
+use borrow.Author.Tests.{eq-eqb, ne-eqb}
 use Rattle.sets.specs.Fill.{FillAnswer, fillAnswer}
 use Rattle.sets.specs.declared.fill.Filled.{Filled}
 use Rattle.sets.specs.declared.fill.Filled.the-variants.{Done, Over}
-use Rattle.runs.specs.Runs.{standsInRun, appendedFilled}
-use Rattle.heap.specs.Entries.{entryFrom, entryTo}
-use Rattle.heap.specs.Contracted.{Stores, stores, enteredFrame, onwardFrom, contractedEntry, contractedFrom}
+use Rattle.runs.specs.Runs.{ReplaceAnswer, replaceAnswer, replaced}
+use Rattle.runs.specs.declared.run.Replaced.{Replaced}
+use Rattle.heap.specs.Entries.{entryKnown, entryFrom, entryTo}
+use Rattle.heap.specs.Contracted.{Stores, stores, enteredFrame, leafEntered, onwardFrom, contractedEntry, contractedFrom}
 
 module _ (i x vfrom vto used : ℕ) (h f : List ℕ) where
-  pub entry-none : 65535 < used → stores Over h f ≡ contractedEntry i x vfrom vto used h f
+  pub entry-closed : entryKnown f i % 2 ≡ 1 → stores (Done used) h f ≡ contractedEntry i x vfrom vto used h f
   unfolding contractedEntry
-  entry-none l = rw (lt-ltb 65535 used l)
+  entry-closed e = rw (eq-eqb (entryKnown f i % 2) 1 e)
 
-  module _ (in-heap : used ≤ 65535) (from to end : ℕ) (is-from : from ≡ entryFrom f i) (is-to : to ≡ entryTo f i) (is-end : end ≡ min to used) where
-    pub entry-kept : standsInRun from end x h ≡ false → stores (Done used) h f ≡ contractedEntry i x vfrom vto used h f
+  module _ (unclosed : entryKnown f i % 2 ≡ 1 → ⊥) (from to : ℕ) (is-from : from ≡ entryFrom f i) (is-to : to ≡ entryTo f i) where
+    pub entry-leaf : to - from ≡ 1 → (c : ℕ) → c ≡ getD h from 0 → (f′ : List ℕ) → f′ ≡ leafEntered i c x vfrom vto f → stores (Done used) h f′ ≡ contractedEntry i x vfrom vto used h f
     unfolding contractedEntry
-    entry-kept e = rw (le-ltb 65535 used in-heap, ← is-from, ← is-to, ← is-end, e)
+    entry-leaf e c is f′ put =
+        let z : entryTo f i - entryFrom f i ≡ 1 = ap₂ _-_ (inv is-to) (inv is-from) ∙ e in
+        let w : getD h (entryFrom f i) 0 ≡ c = ap (λ (k : ℕ). getD h k 0) (inv is-from) ∙ inv is in
+        rw (ne-eqb (entryKnown f i % 2) 1 unclosed, eq-eqb (entryTo f i - entryFrom f i) 1 z, w, put)
 
-    pub entry-made : standsInRun from end x h ≡ true → (r : Filled) (h′ : List ℕ) → fillAnswer r h′ ≡ appendedFilled from to x vfrom vto used h →
-        (q : Filled) (f′ : List ℕ) → fillAnswer q f′ ≡ enteredFrame i (getD f (3 * i) 0) used r f → stores q h′ f′ ≡ contractedEntry i x vfrom vto used h f
+    pub entry-made : (to - from ≡ 1 → ⊥) → (r : Replaced) (h′ : List ℕ) → replaceAnswer r h′ ≡ replaced from to x vfrom vto used h → (size : ℕ) → size ≡ vto - vfrom →
+        (q : Filled) (f′ : List ℕ) → fillAnswer q f′ ≡ enteredFrame i (entryKnown f i) size used r f → stores q h′ f′ ≡ contractedEntry i x vfrom vto used h f
     unfolding contractedEntry
-    entry-made e r h′ made q f′ put = rw (le-ltb 65535 used in-heap, ← is-from, ← is-to, ← made, ← put, ← is-end, e)
+    entry-made e r h′ made size is q f′ put =
+        let z : entryTo f i - entryFrom f i ≡ to - from = ap₂ _-_ (inv is-to) (inv is-from) in
+        rw (ne-eqb (entryKnown f i % 2) 1 unclosed, z, ne-eqb (to - from) 1 e, ← is-from, ← is-to, ← made, ← is, ← put)
 
 -- one turn of `contract_entries`
 module _ (i end x vfrom vto used : ℕ) (h f : List ℕ) where

@@ -3,13 +3,14 @@ use Prim.Native.Nat.{ℕ, zero, suc, _+_, _-_, _*_, _≤_, _<_}
 use mathlib.Core.Path.{_≡_, refl, ap, ap₂, _∙_, sym as inv}
 use mathlib.Core.List.{List, [], _∷_}
 use native.Mathlib.Omega.{arith}
-use lib.ListN.{length}
+use native.Mathlib.Decide.{decLe}
+use lib.ListN.{length, List·getD-eq-default}
 use Rattle.expressions.specs.Expression.{Exp, nodes, nodesAll}
 use Rattle.sets.specs.Cells.{cells}
 use Rattle.sets.proofs.CellLaws.{cells-nodes}
 use Rattle.heap.specs.Entries.{entryFrom, entryTo, nodesFrom}
 use Rattle.runs.proofs.RunLaws.{length-cellsAt}
-use Rattle.heap.proofs.HeapLaws.{Holds}
+use Rattle.heap.proofs.HeapLaws.{Holds, nodes-positive}
 use Rattle.heap.proofs.FrameLaws.{Held}
 use Rattle.heap.proofs.FrameLaws as frame
 
@@ -45,4 +46,13 @@ holds-nodes {h} {used} {from} {to} {t} x = inv (length-cellsAt (to - from) from 
 pub held-nodes : {h : List ℕ} {used : ℕ} {f : List ℕ} {i : ℕ} {ts : List Exp} → Held h used f i ts → nodesFrom (length ts) i f ≡ nodesAll ts
 unfolding nodesFrom
 held-nodes frame.Held.none = refl
-held-nodes (frame.Held.more x r) = ap₂ _+_ (holds-nodes x) (held-nodes r)
+held-nodes (frame.Held.more x k r) = ap₂ _+_ (holds-nodes x) (held-nodes r)
+
+-- entries that are held stand in the frame
+pub held-few : {h : List ℕ} {used : ℕ} {f : List ℕ} {i : ℕ} {ts : List Exp} → Held h used f i ts → length f ≡ 12360 → i ≤ 4120 → i + length ts ≤ 4120
+held-few frame.Held.none l m = omega arith
+held-few {f = f} {i = i} (frame.Held.more {t = t} {ts = ts} x k r) l m = past (decLe 4120 i) (λ n. held-few r l n)
+  where
+    past : Dec (4120 ≤ i) → (i + 1 ≤ 4120 → i + 1 + length ts ≤ 4120) → i + length (t ∷ ts) ≤ 4120
+    past (yes n) again = let z : entryTo f i ≡ 0 = List·getD-eq-default f 0 {n = 3 * i + 2} (omega arith) in absurd (omega (arith, z, holds-nodes x, nodes-positive t))
+    past (no n) again = omega (arith, again (omega arith))

@@ -9,6 +9,10 @@ use Rattle.runs.specs.Runs.{cellsAt}
 use Rattle.heap.specs.declared.entry.Pushed.{Pushed}
 use Rattle.heap.specs.declared.entry.Pushed.the-variants.{Done, Full}
 
+-- what is known of the value: 2 n + c, where n is how many cells the head of a pair has, c is 1 where no variable stands in it; 0 where it isn't known
+abbrev pub entryKnown : List ℕ → ℕ → ℕ
+entryKnown f i = getD f (3 * i) 0
+
 abbrev pub entryFrom : List ℕ → ℕ → ℕ
 entryFrom f i = getD f (3 * i + 1) 0
 
@@ -16,7 +20,7 @@ abbrev pub entryTo : List ℕ → ℕ → ℕ
 entryTo f i = getD f (3 * i + 2) 0
 
 unfoldable pub entry : ℕ → ℕ → ℕ → ℕ → List ℕ → List ℕ
-entry i key from to f = set (set (set f (3 * i) key) (3 * i + 1) (min from 65535)) (3 * i + 2) (min to 65535)
+entry i known from to f = set (set (set f (3 * i) known) (3 * i + 1) (min from 65535)) (3 * i + 2) (min to 65535)
 
 pub record PushAnswer : Type 0 where
   pub answer : Pushed
@@ -26,7 +30,7 @@ abbrev pub pushAnswer : Pushed → List ℕ → PushAnswer
 pushAnswer a f = record { answer = a; frame = f }
 
 unfoldable pub pushed : ℕ → ℕ → ℕ → ℕ → List ℕ → PushAnswer
-pushed n key from to f = cond (leb 4120 n) (pushAnswer Full f) (pushAnswer (Done (n + 1)) (entry n key from to f))
+pushed n known from to f = cond (leb 4120 n) (pushAnswer Full f) (pushAnswer (Done (n + 1)) (entry n known from to f))
 
 -- the cells of n entries, written at another entry's place
 abbrev pub movedDown : ℕ → ℕ → ℕ → List ℕ → List ℕ

@@ -17,8 +17,8 @@ fn relocated(frame: &mut [u16; 12360], i: usize, down: usize, used: usize, w: Fi
 {
     match w {
         Filled::Done(k) => {
-            let key = frame[3 * i];
-            entry::put_entry(frame, i, key, cell::less(used, down), cell::less(k, down));
+            let known = frame[3 * i];
+            entry::put_entry(frame, i, known, cell::less(used, down), cell::less(k, down));
             Filled::Done(k)
         }
         Filled::Over => Filled::Over,

@@ -1,24 +1,61 @@
-// A contraction of entries: an entry in whose range the variable stands gets a new range, its filled copy.
+// A contraction of entries: an entry in whose range the variable stands gets a new range, its filled copy. A range in which no variable stands is passed by.
 use crate::entry;
 use runs::run;
+use runs::run::Replaced;
 use sets::cell;
 use sets::fill::Filled;
 ghost use mathlib.Core.Path.{_≡_};
 ghost use Prim.Native.Nat.{_<_};
 ghost use Rattle.sets.specs.Fill.{fillAnswer};
-ghost use Rattle.heap.specs.Contracted.{enteredFrame, stores, contractedEntry, contractedEntries};
+ghost use Rattle.heap.specs.Contracted.{knownAfter, closedAs, enteredFrame, leafEntered, stores, contractedEntry, contractedEntries};
 
-// The entry i with its new range, where there is one.
-fn entered(frame: &mut [u16; 12360], i: usize, key: u16, used: usize, w: Filled) -> Filled
+// What is known of a value in which a variable was replaced by a tree of `size` cells: a tree of one cell keeps every length.
+fn known_after(known: u16, size: usize) -> u16
+    ensures { λ r. ⌜ r ≡ knownAfter known size ⌝ }
+{
+    if size == 1 { known } else { 0 }
+}
+
+// What is known of a value in which no variable stands.
+fn closed(k: u16) -> u16
+    ensures { λ r. ⌜ r ≡ closedAs k ⌝ }
+{
+    if k % 2 == 1 { k } else { k + 1 }
+}
+
+// The entry i by what became of its range: its new range where it was filled. Done: what is used then.
+fn entered(
+    frame: &mut [u16; 12360],
+    i: usize,
+    known: u16,
+    size: usize,
+    used: usize,
+    w: Replaced,
+) -> Filled
     requires { ⌜ i < 4120 ⌝ }
-    ensures { λ r. ⌜ fillAnswer r (now (frame .exit)) ≡ enteredFrame i key used w (now (frame .entry)) ⌝ }
+    ensures { λ r. ⌜ fillAnswer r (now (frame .exit)) ≡ enteredFrame i known size used w (now (frame .entry)) ⌝ }
 {
     match w {
-        Filled::Done(k) => {
-            entry::put_entry(frame, i, key, used, k);
+        Replaced::Closed => {
+            frame[3 * i] = closed(known);
+            Filled::Done(used)
+        }
+        Replaced::Open => Filled::Done(used),
+        Replaced::Done(k) => {
+            entry::put_entry(frame, i, known_after(known, size), used, k);
             Filled::Done(k)
         }
-        Filled::Over => Filled::Over,
+        Replaced::Over => Filled::Over,
+    }
+}
+
+// The entry i, whose value is a leaf: where it is x it gets the range that stands for x.
+fn contract_leaf(frame: &mut [u16; 12360], i: usize, code: u16, x: u16, vfrom: usize, vto: usize)
+    requires { ⌜ i < 4120 ⌝ }
+    ensures { λ _. ⌜ now (frame .exit) ≡ leafEntered i code x vfrom vto (now (frame .entry)) ⌝ }
+{
+    if code == x {
+        entry::put_entry(frame, i, 0, vfrom, vto);
     }
 }
 
@@ -35,18 +72,19 @@ pub(crate) fn contract_entry(
     requires { ⌜ i < 4120 ⌝ }
     ensures { λ r. ⌜ stores r (now (heap .exit)) (now (frame .exit)) ≡ contractedEntry i x vfrom vto used (now (heap .entry)) (now (frame .entry)) ⌝ }
 {
-    if run::SIZE < used {
-        return Filled::Over;
+    let known = frame[3 * i];
+    if known % 2 == 1 {
+        return Filled::Done(used);
     }
-    let key = frame[3 * i];
     let from = entry::wide(frame[3 * i + 1]);
     let to = entry::wide(frame[3 * i + 2]);
-    let end = cell::least(to, used);
-    if run::stands(heap, from, end, x) {
-        let w = run::append_filled(heap, from, to, x, vfrom, vto, used);
-        return entered(frame, i, key, used, w);
+    if cell::less(to, from) == 1 {
+        let code = cell::cell(heap, from);
+        contract_leaf(frame, i, code, x, vfrom, vto);
+        return Filled::Done(used);
     }
-    Filled::Done(used)
+    let w = run::replace(heap, from, to, x, vfrom, vto, used);
+    entered(frame, i, known, cell::less(vto, vfrom), used, w)
 }
 
 // The same for the entries from `first` on, before `last`.

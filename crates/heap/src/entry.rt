@@ -1,4 +1,5 @@
-// Entries of the frame, three cells each: key, and the range of its value.
+// Entries of the frame, three cells each: what is known of its value, and the range of it. What is known is 2 n + c: n is how many cells the head of a pair
+// has, so that where it ends need not be looked for; c is 1 where no variable stands in the value, so that a contraction passes it by. 0: it isn't known.
 use sets::cell;
 ghost use mathlib.Core.Path.{_≡_};
 ghost use Prim.Native.Nat.{min, _+_, _-_, _<_, _≤_};
@@ -29,25 +30,25 @@ pub enum Pushed {
 }
 
 // The entry i.
-pub(crate) fn put_entry(frame: &mut [u16; 12360], i: usize, key: u16, from: usize, to: usize)
+pub(crate) fn put_entry(frame: &mut [u16; 12360], i: usize, known: u16, from: usize, to: usize)
     requires { ⌜ i < 4120 ⌝ }
-    ensures { λ _. ⌜ now (frame .exit) ≡ entry i key from to (now (frame .entry)) ⌝ }
+    ensures { λ _. ⌜ now (frame .exit) ≡ entry i known from to (now (frame .entry)) ⌝ }
 {
     let a = narrow(from);
     let b = narrow(to);
-    frame[3 * i] = key;
+    frame[3 * i] = known;
     frame[3 * i + 1] = a;
     frame[3 * i + 2] = b;
 }
 
 // One entry more, behind n.
-pub fn push_entry(frame: &mut [u16; 12360], n: usize, key: u16, from: usize, to: usize) -> Pushed
-    ensures { λ r. ⌜ pushAnswer r (now (frame .exit)) ≡ pushed n key from to (now (frame .entry)) ⌝ }
+pub fn push_entry(frame: &mut [u16; 12360], n: usize, known: u16, from: usize, to: usize) -> Pushed
+    ensures { λ r. ⌜ pushAnswer r (now (frame .exit)) ≡ pushed n known from to (now (frame .entry)) ⌝ }
 {
     if ENTRIES <= n {
         return Pushed::Full;
     }
-    put_entry(frame, n, key, from, to);
+    put_entry(frame, n, known, from, to);
     Pushed::Done(n + 1)
 }
 
@@ -82,29 +83,26 @@ pub fn move_entries(frame: &mut [u16; 12360], from: usize, n: usize, to: usize)
     move_down(frame, from, n, to);
 }
 
-// The nodes of the entry i.
-fn entry_nodes(frame: &[u16; 12360], i: usize) -> usize
-    requires { ⌜ i < 4120 ⌝ }
-    ensures { λ r. ⌜ (r ≡ entryTo (now (frame .entry)) i - entryFrom (now (frame .entry)) i) × (r ≤ 65535) ⌝ }
+// The cells from one place up to another.
+fn between(from: u16, to: u16) -> u32
+    ensures { λ r. ⌜ (r ≡ to - from) × (r ≤ 65535) ⌝ }
 {
-    let from = wide(frame[3 * i + 1]);
-    let to = wide(frame[3 * i + 2]);
     if from < to {
-        return to - from;
+        return (to - from) as u32;
     }
     0
 }
 
-// The nodes of the first n entries.
+// The nodes of the first n entries. Summed in 32 bits, of which four go into what the compiler adds at once.
 pub fn nodes(frame: &[u16; 12360], n: usize) -> usize
     ensures { λ r. ⌜ r ≡ nodesFrom (min n 4120) 0 (now (frame .entry)) ⌝ }
 {
     let end = cell::least(n, ENTRIES);
-    let mut sum: usize = 0;
+    let mut sum: u32 = 0;
     let mut i: usize = 0;
     while i < end {
-        sum += entry_nodes(frame, i);
+        sum += between(frame[3 * i + 1], frame[3 * i + 2]);
         i += 1;
     }
-    sum
+    sum as usize
 }

@@ -20,7 +20,7 @@ use Rattle.initial.specs.Trees.{treesEntered}
 use Rattle.initial.specs.Beginning.{EnterLeft, enteredLeft, behindOutput, behindInputs, jobEntered}
 use Rattle.initial.specs.declared.begin.Entered.the-variants.{Done as In, Full as NotIn}
 use Rattle.initial.proofs.InitialTurns.{pushed-full, pushed-on}
-use Rattle.initial.proofs.TreeLaws.{Outcome, trees-mean, entry-holds, entry-below}
+use Rattle.initial.proofs.TreeLaws.{Outcome, trees-mean, entry-holds, entry-knows, entry-below}
 
 pub record EntersJob (h : List ℕ) (used : ℕ) (ins : List Exp) (out : Exp) (w : EnterLeft) : Type 0 where
   pub done : w .answer ≡ In (length ins) (length ins + 1 + length ins)
@@ -46,7 +46,7 @@ module _ (h : List ℕ) (used : ℕ) (whole : length h ≡ 65535) (in-heap : use
         let below = entry-below h used g n a b out in-heap long room low output (w .frame) (e .before) in
         let z : 0 + n ≡ n = omega arith in
         let front : Held h used (w .frame) 0 ins = held-front held below-self (omega arith) (rw z below) in
-        let back : Held h used (w .frame) n (out ∷ ins) = frame.Held.more (entry-holds h used g n a b out in-heap long room low output (w .frame) (e .before)) (e .holds) in
+        let back : Held h used (w .frame) n (out ∷ ins) = frame.Held.more (entry-holds h used g n a b out in-heap long room low output (w .frame) (e .before)) (entry-knows h used g n a b out in-heap long room low output (w .frame) (e .before)) (e .holds) in
         rw (e .done) (inr (record {
           done = refl;
           holds = held-joined front (rw z back);

@@ -12,11 +12,12 @@ use Rattle.expressions.specs.Expression.{Exp, atm, evar, pair, nodes}
 use Rattle.sets.specs.Cells.{cells, cellsAll, treeEnd}
 use Rattle.sets.proofs.CellLaws.{stands-end, cells-nodes}
 use Rattle.runs.specs.Runs.{cellsAt, run}
-use Rattle.heap.specs.Entries.{PushAnswer, entry, entryFrom, entryTo, pushed}
+use Rattle.heap.specs.Entries.{PushAnswer, entry, entryKnown, entryFrom, entryTo, pushed}
 use Rattle.heap.specs.declared.entry.Pushed.the-variants.{Done, Full}
 use Rattle.runs.proofs.RunLaws.{Below, below-self, length-cellsAt, run-drop, cells-split}
-use Rattle.heap.proofs.HeapLaws.{Holds}
-use Rattle.heap.proofs.FrameLaws.{Held, entry-length, entry-before, entry-from, entry-to}
+use Rattle.heap.proofs.HeapLaws.{Holds, nodes-positive}
+use Rattle.heap.proofs.FrameLaws.{Held, entry-length, entry-before, entry-known, entry-from, entry-to}
+use Rattle.heap.proofs.KnownLaws.{KnownOf, unknown}
 use Rattle.heap.proofs.FrameLaws as frame
 use Rattle.initial.specs.Trees.{onwardPush, treesEntered}
 use Rattle.initial.proofs.InitialTurns.{trees-end, trees-turn, pushed-full, pushed-on}
@@ -37,14 +38,6 @@ pub record First (h : List ℕ) (i to : ℕ) (t : Exp) (r : List ℕ) : Type 0 w
   pub first : run i (i + nodes t) h ≡ cells t
   pub rest : run (i + nodes t) to h ≡ r
   pub end : treeEnd h i ≡ i + nodes t
-
-nodes-positive : (t : Exp) → 1 ≤ nodes t
-nodes-positive t = omega (arith, cells-nodes t, go t)
-  where
-    go : (t : Exp) → 1 ≤ length (cells t)
-    go (atm x) = omega arith
-    go (evar x) = omega arith
-    go (pair c d) = omega arith
 
 first-tree : (h : List ℕ) (i to : ℕ) (t : Exp) (r : List ℕ) → i ≤ to → to ≤ length h → run i to h ≡ cells t ++ r → First h i to t r
 first-tree h i to t r l m e =
@@ -82,6 +75,9 @@ module _ (h : List ℕ) (used : ℕ) (f : List ℕ) (n i to : ℕ) (t : Exp) (in
       let q : entryTo g n ≡ to = b .same (3 * n + 2) (omega arith) ∙ entry-to n 0 i to f (omega arith) ∙ omega arith in
       rw (p, q) x
 
+  pub entry-knows : (g : List ℕ) → Below (3 * (n + 1)) g (entry n 0 i to f) → KnownOf (entryKnown g n) t
+  entry-knows g b = let p : entryKnown g n ≡ 0 = b .same (3 * n) (omega arith) ∙ entry-known n 0 i to f (omega arith) in rw p unknown
+
   pub entry-below : (g : List ℕ) → Below (3 * (n + 1)) g (entry n 0 i to f) → Below (3 * n) g f
   entry-below g b = record { same = λ j l. b .same j (omega arith) ∙ entry-before n 0 i to f .same j l }
 
@@ -103,7 +99,7 @@ module _ (h : List ℕ) (used : ℕ) (whole : length h ≡ 65535) (in-heap : use
       let z : n + 1 + length ts ≡ n + suc (length ts) = omega arith in
       inr (record {
         done = rw z at (a .done);
-        holds = frame.Held.more (entry-holds h used f n i to t in-heap long room low x (w .frame) (a .before)) (a .holds);
+        holds = frame.Held.more (entry-holds h used f n i to t in-heap long room low x (w .frame) (a .before)) (entry-knows h used f n i to t in-heap long room low x (w .frame) (a .before)) (a .holds);
         before = entry-below h used f n i to t in-heap long room low x (w .frame) (a .before);
         size = a .size ∙ entry-length n 0 i to f;
       })

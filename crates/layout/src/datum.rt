@@ -50,19 +50,19 @@ fn datum_cell(jmarks: &[u16], jnums: &[u16], i: usize) -> u16
     0
 }
 
-// One cell. Done: the place behind it.
-pub(crate) fn lay_cell(heap: &mut [u16; 65535], x: u16, at: usize) -> Filled
+// One cell, below 65,535, as far as the heap is long. Done: the place behind it.
+pub(crate) fn lay_cell(heap: &mut [u16], x: u16, at: usize) -> Filled
     ensures { λ r. ⌜ fillAnswer r (now (heap .exit)) ≡ written at 1 (x ∷ []) (now (heap .entry)) ⌝ }
 {
     if 65534 < at {
         return Filled::Over;
     }
-    heap[at] = x;
+    cell::put(heap, at, x);
     Filled::Done(at + 1)
 }
 
 // The cell of the token i, if it gives one.
-fn lay_datum(jmarks: &[u16], jnums: &[u16], i: usize, heap: &mut [u16; 65535], at: usize) -> Filled
+fn lay_datum(jmarks: &[u16], jnums: &[u16], i: usize, heap: &mut [u16], at: usize) -> Filled
     ensures { λ r. ⌜ fillAnswer r (now (heap .exit)) ≡ datumWritten (now (jmarks .entry)) (now (jnums .entry)) i at (now (heap .entry)) ⌝ }
 {
     let code = datum_cell(jmarks, jnums, i);
@@ -78,7 +78,7 @@ pub(crate) fn lay_data(
     jnums: &[u16],
     from: usize,
     to: usize,
-    heap: &mut [u16; 65535],
+    heap: &mut [u16],
     at: usize,
 ) -> Filled
     ensures { λ r. ⌜ fillAnswer r (now (heap .exit)) ≡ dataWritten (now (jmarks .entry)) (now (jnums .entry)) (to - from) from at (now (heap .entry)) ⌝ }

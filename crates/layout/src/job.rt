@@ -35,7 +35,7 @@ fn lay_output(
     jmarks: &[u16],
     jnums: &[u16],
     parts: JobEnds,
-    heap: &mut [u16; 65535],
+    heap: &mut [u16],
     at: usize,
     run: bool,
 ) -> Filled
@@ -52,7 +52,7 @@ fn lay_sides(
     jmarks: &[u16],
     jnums: &[u16],
     parts: JobEnds,
-    heap: &mut [u16; 65535],
+    heap: &mut [u16],
     at: usize,
     run: bool,
 ) -> Filled
@@ -82,7 +82,7 @@ fn lay_ends(
     jmarks: &[u16],
     jnums: &[u16],
     parts: JobEnds,
-    heap: &mut [u16; 65535],
+    heap: &mut [u16],
     ins: usize,
     run: bool,
 ) -> Laid
@@ -99,13 +99,7 @@ fn lay_ends(
 }
 
 // The inputs, the wanted output and the sides of the job whose parts stand so, one behind the other from the first cell on. With `run` its inputs alone.
-pub fn lay_job(
-    jmarks: &[u16],
-    jnums: &[u16],
-    parts: JobEnds,
-    heap: &mut [u16; 65535],
-    run: bool,
-) -> Laid
+pub fn lay_job(jmarks: &[u16], jnums: &[u16], parts: JobEnds, heap: &mut [u16], run: bool) -> Laid
     ensures { λ r. ⌜ laidLeft r (now (heap .exit)) ≡ jobLaid (now (jmarks .entry)) (now (jnums .entry)) parts run (now (heap .entry)) ⌝ }
 {
     let a = lay_data(jmarks, jnums, INPUTS, parts.ins, heap, 0);

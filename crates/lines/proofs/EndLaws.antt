@@ -21,11 +21,12 @@ use Rattle.semantics.specs.Configuration.{ExpEnv, substOfEnv, nodesState, Confi
 use Rattle.semantics.specs.Tree.{Node, meetingAt}
 use Rattle.semantics.specs.Walk.{meetingOver, Limits, stop21, stop22, stop23, WalkState, Walked, going, stopped, tableFull, withLine, atEnd}
 use Rattle.semantics.proofs.Scopes.{Covers, WellScoped}
-use Rattle.heap.specs.Entries.{entry, entryFrom, entryTo, pushed}
+use Rattle.heap.specs.Entries.{entry, entryKnown, entryFrom, entryTo, pushed}
 use Rattle.heap.specs.declared.configuration.Configuration.{Configuration as InCells}
 use Rattle.runs.proofs.RunLaws.{Below}
-use Rattle.heap.proofs.HeapLaws.{Holds}
-use Rattle.heap.proofs.FrameLaws.{Held, held-front, entry-length, entry-before, entry-from, entry-to}
+use Rattle.heap.proofs.HeapLaws.{Holds, nodes-positive}
+use Rattle.heap.proofs.FrameLaws.{Held, held-front, entry-length, entry-before, entry-known, entry-from, entry-to}
+use Rattle.heap.proofs.KnownLaws.{KnownOf}
 use Rattle.heap.proofs.FrameLaws as frame
 use Rattle.heap.proofs.PartLaws.{held-joined}
 use Rattle.heap.proofs.NodeLaws.{holds-nodes}
@@ -39,7 +40,7 @@ use Rattle.values.specs.declared.value.Valued.the-variants.{At, Over as ValuedO
 use Rattle.values.proofs.ValueLaws.{Known, ValuedAs}
 use Rattle.values.proofs.RoomLaws.{value-outcome}
 use Rattle.values.proofs.RoomLaws as values
-use Rattle.values.proofs.StateLaws.{HoldsPair, Stands, known-in-scope, nodes-positive}
+use Rattle.values.proofs.StateLaws.{HoldsPair, Stands, known-in-scope}
 use Rattle.values.proofs.PairLaws.{ends, ends-length, ends-held, values-held, base-is, entries-are, entries-few}
 use Rattle.meetings.specs.Unifying.{MetLeft, metLeft, unified}
 use Rattle.meetings.specs.declared.class.Class.{Class}
@@ -156,11 +157,11 @@ module _ (p : Prog) (bodies : ℕ → ℕ) (code : List ℕ) {h f q : List ℕ} 
   linked = result-parts (subst (λ (t : Term). TermLinked p bodies code (S .names) (c .place) t (S .past)) is (S .term))
 
   -- the output behind inputs and wanted output
-  module _ (from to now : ℕ) (g : List ℕ) (at : Holds g now from to u) (same : Below (c .used) g h) (grown : c .used ≤ now) (fits : now ≤ 65535) (whole : length g ≡ 65535) where
+  module _ (from to now kn : ℕ) (g : List ℕ) (at : Holds g now from to u) (knows : KnownOf kn u) (same : Below (c .used) g h) (grown : c .used ≤ now) (fits : now ≤ 65535) (whole : length g ≡ 65535) where
     abbrev f′ : List ℕ
-    f′ = entry (namesFrom c) 0 from to f
+    f′ = entry (namesFrom c) kn from to f
 
-    pushed-is : pushed (namesFrom c) 0 from to f .frame ≡ f′
+    pushed-is : pushed (namesFrom c) kn from to f .frame ≡ f′
     unfolding pushed
     pushed-is = rw (lt-leb 4120 (namesFrom c) (omega (arith, names-at, entries-are v, entries-few v (omega arith))))
 
@@ -172,9 +173,10 @@ module _ (p : Prog) (bodies : ℕ → ℕ) (code : List ℕ) {h f q : List ℕ} 
         let n = nodes-positive u in
         let i : min from 65535 ≡ from = omega (arith, at .below) in
         let j : min to 65535 ≡ to = omega (arith, at .below) in
-        let at′ : Holds g now (entryFrom f′ (namesFrom c)) (entryTo f′ (namesFrom c)) u = rw (entry-from (namesFrom c) 0 from to f r, entry-to (namesFrom c) 0 from to f r, i, j) at in
-        let one : Held g now f′ (namesFrom c) (u ∷ []) = frame.Held.more at′ frame.Held.none in
-        let two : Held g now f′ 0 (ends (x .conf .cr)) = held-front (ends-held v) same grown (record { same = λ j l. entry-before (namesFrom c) 0 from to f .same j (omega (arith, names-at)) }) in
+        let at′ : Holds g now (entryFrom f′ (namesFrom c)) (entryTo f′ (namesFrom c)) u = rw (entry-from (namesFrom c) kn from to f r, entry-to (namesFrom c) kn from to f r, i, j) at in
+        let kn′ : KnownOf (entryKnown f′ (namesFrom c)) u = rw (entry-known (namesFrom c) kn from to f r) knows in
+        let one : Held g now f′ (namesFrom c) (u ∷ []) = frame.Held.more at′ kn′ frame.Held.none in
+        let two : Held g now f′ 0 (ends (x .conf .cr)) = held-front (ends-held v) same grown (record { same = λ j l. entry-before (namesFrom c) kn from to f .same j (omega (arith, names-at)) }) in
         let z : 0 + length (ends (x .conf .cr)) ≡ namesFrom c = omega (arith, names-at) in
         record {
           entries = omega (arith, names-at, ends-length (x .conf .cr));
@@ -182,7 +184,7 @@ module _ (p : Prog) (bodies : ℕ → ℕ) (code : List ℕ) {h f q : List ℕ} 
           holds = subst (λ (ts : List Exp). Held g now f′ 0 ts) (append-assoc (x .conf .cr .con .io .ins) (x .conf .cr .con .io .out ∷ []) (u ∷ [])) (held-joined two (rw z one));
           restriction = v .neqs;
           of-heap = whole;
-          of-frame = entry-length (namesFrom c) 0 from to f ∙ v .frame-size;
+          of-frame = entry-length (namesFrom c) kn from to f ∙ v .frame-size;
           of-q = v .q-size;
         }
 
@@ -197,26 +199,26 @@ module _ (p : Prog) (bodies : ℕ → ℕ) (code : List ℕ) {h f q : List ℕ} 
       is-large : intersect over P ≡ tooLarge
       is-large = rw e
 
-  module _ (from to now : ℕ) (at : Holds (valued .heap) now from to u) (same : Below (c .used) (valued .heap) h) (grown : c .used ≤ now) (most : now ≤ c .used + nodes u) (fits : now ≤ 65535) (whole : length (valued .heap) ≡ 65535) where
-    abbrev m : MeetingHeld P (valued .heap) (entry (namesFrom c) 0 from to f) q (classAt c now)
-    m = meets from to now (valued .heap) at same grown fits whole
+  module _ (from to now kn : ℕ) (at : Holds (valued .heap) now from to u) (knows : KnownOf kn u) (same : Below (c .used) (valued .heap) h) (grown : c .used ≤ now) (most : now ≤ c .used + nodes u) (fits : now ≤ 65535) (whole : length (valued .heap) ≡ 65535) where
+    abbrev m : MeetingHeld P (valued .heap) (entry (namesFrom c) kn from to f) q (classAt c now)
+    m = meets from to now kn (valued .heap) at knows same grown fits whole
 
     abbrev w : MetLeft
-    w = unified (classAt c now) (valued .heap) (entry (namesFrom c) 0 from to f) q
+    w = unified (classAt c now) (valued .heap) (entry (namesFrom c) kn from to f) q
 
     met-value : (t : Bool) → over P ≡ t → MeetsAs w
-    met-value true e = too-large e w (ap (λ (k : MetLeft). k .met) (unified-over P (valued .heap) (entry (namesFrom c) 0 from to f) q (classAt c now) m e))
+    met-value true e = too-large e w (ap (λ (k : MetLeft). k .met) (unified-over P (valued .heap) (entry (namesFrom c) kn from to f) q (classAt c now) m e))
     met-value false e =
         let n = ltb-false 4096 (nodesMeeting P) e in
-        let k = unify-means P (valued .heap) (entry (namesFrom c) 0 from to f) q (classAt c now) simple m (record { floored = grown; low = omega arith; room = omega arith }) in
+        let k = unify-means P (valued .heap) (entry (namesFrom c) kn from to f) q (classAt c now) simple m (record { floored = grown; low = omega arith; room = omega arith }) in
         record {
           answered = k .answered;
           kept = inr (record { same = record { same = λ j l. k .kept .same .same j l ∙ same .same j l }; of-heap = k .kept .of-heap; of-frame = k .kept .of-frame; of-q = k .kept .of-q });
         }
 
-    output-is : valued .answer ≡ At from to now → outputMet code c h f q ≡ w
+    output-is : valued .answer ≡ At from to now kn → outputMet code c h f q ≡ w
     unfolding outputMet
-    output-is d = rw (d, pushed-is from to now (valued .heap) at same grown fits whole)
+    output-is d = rw (d, pushed-is from to now kn (valued .heap) at knows same grown fits whole)
 
   output-none : valued .answer ≡ ValuedOver → outputMet code c h f q .met ≡ MetOver
   unfolding outputMet
@@ -232,8 +234,9 @@ module _ (p : Prog) (bodies : ℕ → ℕ) (code : List ℕ) {h f q : List ℕ} 
       go d i (inr k) =
           let z : apply (substOfEnv (envOf (S .names) (v .values))) e ≡ u = ap (λ (σ : ExpEnv). apply (substOfEnv σ) e) (inv (v .env)) in
           let t : Holds (valued .heap) (k .now) (k .from) (k .to) u = subst (λ (j : Exp). Holds (valued .heap) (k .now) (k .from) (k .to) j) z (k .holds) in
+          let kn : KnownOf (k .known) u = subst (KnownOf (k .known)) z (k .knows) in
           let n : k .now ≤ c .used + nodes u = subst (λ (j : Exp). k .now ≤ c .used + nodes j) z (k .most) in
-          subst MeetsAs (inv (output-is (k .from) (k .to) (k .now) t (k .same) (k .grown) n (k .fits) (k .size) (k .done))) (met-value (k .from) (k .to) (k .now) t (k .same) (k .grown) n (k .fits) (k .size) (over P) refl)
+          subst MeetsAs (inv (output-is (k .from) (k .to) (k .now) (k .known) t kn (k .same) (k .grown) n (k .fits) (k .size) (k .done))) (met-value (k .from) (k .to) (k .now) (k .known) t kn (k .same) (k .grown) n (k .fits) (k .size) (over P) refl)
 
   -- THE LAW of an end
   module _ (lim : Limits) (few : lim .table ≤ 256) (steps depth : ℕ) (within : steps ≤ 65535) (r : WalkState) (a : List ℕ) (l : Lines) (held : LinesHeld (r .lines) (r .nodes) a l) (long : answerRoom ≤ length a) where

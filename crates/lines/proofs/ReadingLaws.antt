@@ -17,7 +17,7 @@ use Rattle.meetings.proofs.LineLaws.{class-length}
 use Rattle.lines.specs.LineCells.{lineCells, linesCells}
 use Rattle.lines.specs.LineReading.{atomicAt, TreeRead, treeRead, readTree, readTrees, readNeqs, readClass, readLine, pastLine, readLines}
 use Rattle.lines.specs.declared.line.Lines.{Lines}
-use Rattle.values.proofs.StateLaws.{nodes-positive}
+use Rattle.heap.proofs.HeapLaws.{nodes-positive}
 use Rattle.lines.proofs.LineLaws.{zeros, LinesHeld}
 
 atomic-read : (x : AtomicExp) → atomicAt (atomicCode x) ≡ x

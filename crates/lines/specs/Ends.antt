@@ -23,7 +23,7 @@ abbrev pub classAt : Configuration → ℕ → Class
 classAt c used = record { entries = namesFrom c; used = used; neqs = c .neqs; floor = c .used }
 
 abbrev pub valueMet : Configuration → Valued → List ℕ → List ℕ → List ℕ → MetLeft
-valueMet c (At from to used) h f q = unified (classAt c used) h (pushed (namesFrom c) 0 from to f .frame) q
+valueMet c (At from to used known) h f q = unified (classAt c used) h (pushed (namesFrom c) known from to f .frame) q
 valueMet c ValuedOver h f q = metLeft MetOver h f q
 
 unfoldable pub outputMet : List ℕ → Configuration → List ℕ → List ℕ → List ℕ → MetLeft

@@ -46,8 +46,13 @@ fn meet_output(
     let base = names_from(c);
     let v = value(code, heap, frame, base, c.used, c.place);
     match v {
-        Valued::At { from, to, used } => {
-            push_entry(frame, base, 0, from, to);
+        Valued::At {
+            from,
+            to,
+            used,
+            known,
+        } => {
+            push_entry(frame, base, known, from, to);
             unify(heap, frame, q, class_at(c, used))
         }
         Valued::Over => Met::Over,

@@ -17,10 +17,9 @@ use Rattle.heap.specs.Entries.{entryFrom, entryTo, nodesFrom}
 use Rattle.meetings.specs.Classes.{outputEntry, wantedEntry, classNodes}
 use Rattle.meetings.specs.declared.class.Class.{Class}
 use Rattle.sets.proofs.RestrictionLaws.{Front}
-use Rattle.heap.proofs.HeapLaws.{Holds}
+use Rattle.heap.proofs.HeapLaws.{Holds, nodes-positive}
 use Rattle.heap.proofs.FrameLaws.{Held, more}
 use Rattle.heap.proofs.NodeLaws.{holds-nodes, held-nodes}
-use Rattle.meetings.proofs.DifferenceLaws.{nodes-positive}
 
 -- the trees of a meeting in the order of their entries: the inputs, the wanted output, the output
 abbrev pub trees : Meeting → List Exp
@@ -49,19 +48,19 @@ apply-length s (c ∷ cs) = ap suc (apply-length s cs)
 
 -- an entry among those that hold
 pub held-at : {h : List ℕ} {used : ℕ} {f : List ℕ} {i : ℕ} (bs : List Exp) (t : Exp) (ts : List Exp) (j : ℕ) → j ≡ i + length bs → Held h used f i (bs ++ (t ∷ ts)) → Holds h used (entryFrom f j) (entryTo f j) t
-held-at {f = f} {i = i} [] t ts j e (more x r) = let z : j ≡ i = omega arith in rw z x
-held-at (b ∷ bs) t ts j e (more x r) = held-at bs t ts j (omega arith) r
+held-at {f = f} {i = i} [] t ts j e (more x k r) = let z : j ≡ i = omega arith in rw z x
+held-at (b ∷ bs) t ts j e (more x k r) = held-at bs t ts j (omega arith) r
 
 -- entries that hold trees are in the frame, since a tree has a cell
 pub held-room : {h : List ℕ} {used : ℕ} {f : List ℕ} {i : ℕ} (t : Exp) (ts : List Exp) → Held h used f i (t ∷ ts) → 3 * (i + suc (length ts)) ≤ length f
-held-room {f = f} {i = i} t [] (more x r) = pick (decLe (3 * i + 3) (length f))
+held-room {f = f} {i = i} t [] (more x k r) = pick (decLe (3 * i + 3) (length f))
   where
     pick : Dec (3 * i + 3 ≤ length f) → 3 * (i + 1) ≤ length f
     pick (yes l) = omega arith
     pick (no l) =
         let z : entryTo f i ≡ 0 = List·getD-eq-default f 0 {n = 3 * i + 2} (omega arith) in
         absurd (omega (arith, holds-nodes x, nodes-positive t))
-held-room t (u ∷ ts) (more x r) = omega (arith, held-room u ts r)
+held-room t (u ∷ ts) (more x k r) = omega (arith, held-room u ts r)
 
 -- "over 4,096 nodes": the limit of a walk's meetings
 abbrev pub over : CRPair meeting → Bool
@@ -106,8 +105,8 @@ module _ {P : CRPair meeting} {h f q : List ℕ} {c : Class} (m : MeetingHeld P 
     where
       pick : (bs : List Exp) (i j : ℕ) → j ≡ i + length bs + 1 → Held h (c .used) f i (bs ++ (P .con .io .out ∷ (P .con .output ∷ []))) →
           Holds h (c .used) (entryFrom f j) (entryTo f j) (P .con .output)
-      pick [] i j e (more x (more y r)) = let z : j ≡ i + 1 = omega arith in rw z y
-      pick (b ∷ bs) i j e (more x r) = pick bs (i + 1) j (omega arith) r
+      pick [] i j e (more x k (more y n r)) = let z : j ≡ i + 1 = omega arith in rw z y
+      pick (b ∷ bs) i j e (more x k r) = pick bs (i + 1) j (omega arith) r
 
   pub all-entries : min (outputEntry c + 1) 4120 ≡ length (trees (P .con))
   all-entries = omega (arith, few, output-at, trees-length (P .con))

@@ -23,7 +23,7 @@ use Rattle.expressions.proofs.Simplification.{sameAtomic-eq}
 use Rattle.expressions.proofs.Disagreement.{IsIdentity, disagreement-identity}
 use Rattle.sets.proofs.CellLaws.{atomic-not-pair, atomic-not-evar, cells-nodes, Stands, stands-end, stands-part, stands-occurs}
 use Rattle.sets.proofs.ContractionLaws.{code-tag, atomicCode-same}
-use Rattle.heap.proofs.HeapLaws.{Holds}
+use Rattle.heap.proofs.HeapLaws.{Holds, nodes-positive}
 use Rattle.heap.proofs.NodeLaws.{holds-nodes}
 
 -- the first cell of a tree, and those behind it
@@ -41,9 +41,6 @@ root : (c : Exp) → cells c ≡ top c ∷ below c
 root (atm x) = refl
 root (evar n) = refl
 root (pair c d) = refl
-
-pub nodes-positive : (c : Exp) → 0 < nodes c
-nodes-positive c = omega (arith, cells-nodes c, ap length (root c))
 
 common-same : (l : List ℕ) → commonFront l l ≡ length l
 unfolding commonFront

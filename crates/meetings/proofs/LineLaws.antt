@@ -13,14 +13,14 @@ use Rattle.sets.specs.Cells.{cells, cellsAll, restrictionCells, CopyAnswer, cop
 use Rattle.sets.proofs.CellLaws.{cells-nodes, cellsAll-nodes, restrictionCells-nodes, copied-done}
 use Rattle.sets.proofs.RestrictionLaws.{front-room}
 use Rattle.heap.specs.Entries.{entryFrom, entryTo}
-use Rattle.heap.proofs.HeapLaws.{Holds}
+use Rattle.heap.proofs.HeapLaws.{Holds, nodes-positive}
 use Rattle.heap.proofs.FrameLaws.{Held, none, more}
 use Rattle.heap.proofs.NodeLaws.{holds-nodes, held-nodes}
 use Rattle.meetings.specs.Classes.{placeIn, outputEntry, wantedEntry}
 use Rattle.meetings.specs.LineCells.{classCells, lineCells, lineAnswer, lastPlace, headerPut, entryPut, onFrom, entriesPut, sidesPut, headerOf, linePut}
 use Rattle.meetings.specs.declared.class.Class.{Class}
 use Rattle.meetings.specs.declared.line.Header.{Header}
-use Rattle.meetings.proofs.DifferenceLaws.{nodes-positive, run-part}
+use Rattle.meetings.proofs.DifferenceLaws.{run-part}
 use Rattle.meetings.proofs.ClassLaws.{nodes-append, MeetingHeld, few, output-at, wanted-at, wanted-holds}
 
 -- how many cells a line takes
@@ -95,7 +95,7 @@ module _ (h f : List ℕ) (used : ℕ) (in-heap : used ≤ length h) where
       entriesPut (length ts) i h f top (p ++ r) ≡ lineAnswer (top + nodesAll ts) ((p ++ cellsAll ts) ++ drop (nodesAll ts) r)
   unfolding entriesPut
   entries-put [] us i x small p r top is low room = let e : top + 0 ≡ top = omega arith in rw (e, append-nil p)
-  entries-put (t ∷ ts) us i (more x y) small p r top is low room =
+  entries-put (t ∷ ts) us i (more x k y) small p r top is low room =
       let one = entry-put i t x (omega arith) p r top is (omega arith) (omega arith) in
       let again = entries-put ts us (i + 1) y (omega arith) (p ++ cells t) (drop (nodes t) r) (top + nodes t) (length-append p (cells t) ∙ omega (arith, cells-nodes t)) (omega arith) (omega (arith, length-drop (nodes t) r)) in
       let n : top + nodes t + nodesAll ts ≡ top + (nodes t + nodesAll ts) = omega arith in
@@ -107,7 +107,7 @@ cells-append (c ∷ cs) ds = ap (λ (l : List ℕ). cells c ++ l) (cells-append 
 
 held-prefix : {h : List ℕ} {used : ℕ} {f : List ℕ} {i : ℕ} (cs ds : List Exp) → Held h used f i (cs ++ ds) → Held h used f i cs
 held-prefix [] ds x = none
-held-prefix (c ∷ cs) ds (more x y) = more x (held-prefix cs ds y)
+held-prefix (c ∷ cs) ds (more x k y) = more x k (held-prefix cs ds y)
 
 -- THE LAW of a line: behind p stands the line of the class, and behind it what stood there
 module _ {P : CRPair meeting} {h f q : List ℕ} {c : Class} (m : MeetingHeld P h f q c) (in-heap : c .used ≤ 65535) (steps : ℕ) (within : steps ≤ 65535) where

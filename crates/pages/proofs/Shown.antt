@@ -1,6 +1,6 @@
 -- What stands in a page, and how much of a text was taken.
-use Prim.Native.Nat.{ℕ, _-_, _≤_}
-use mathlib.Core.Path.{_≡_, _∙_, ap, subst}
+use Prim.Native.Nat.{ℕ, _+_, _-_, _≤_, _<_, min}
+use mathlib.Core.Path.{_≡_, _∙_, ap, subst, sym}
 use mathlib.Core.Bool.{Bool, true, false, false≢true}
 use mathlib.Core.List.{List}
 use lib.ListN.{length, take, drop, length-take}
@@ -22,3 +22,12 @@ part-within n xs e h = omega (arith, h, ap (λ (zs : List ℕ). length zs) e, le
 -- as many bytes as a text has, by the answer and the cells that it is printed from
 pub taken-text : {A : Type 0} (text : List ℕ → A → List ℕ) {a b : A} {c d : List ℕ} {w : Bool} {n : ℕ} → a ≡ b → c ≡ d → (w ≡ true → n ≡ length (text c a)) → w ≡ true → n ≡ length (text d b)
 taken-text {A} text {a} {b} {c} {d} e f h g = h g ∙ ap (λ (x : A). length (text c x)) e ∙ ap (λ (x : List ℕ). length (text x b)) f
+
+-- the first page of a text, by the answer and the cells that it is printed from
+pub first-bytes : {A : Type 0} (text : List ℕ → A → List ℕ) {a b : A} {c d : List ℕ} {m n : ℕ} → a ≡ b → c ≡ d → m ≡ 65536 → n ≡ min m (length (text d b)) → n ≡ min 65536 (length (text c a))
+first-bytes {A} text {a} {b} {c} {d} e f g h =
+    h ∙ ap (λ (k : ℕ). min k (length (text d b))) g ∙ ap (λ (x : List ℕ). min 65536 (length (text x b))) (sym f) ∙ ap (λ (x : A). min 65536 (length (text c x))) (sym e)
+
+-- one page of 64 less
+pub less-on : {k : ℕ} → k < 64 → 64 - (k + 1) < 64 - k
+less-on l = omega arith

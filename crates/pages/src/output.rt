@@ -5,11 +5,12 @@ use crate::part::part;
 use libc::EAGAIN;
 use libc::EINTR;
 use libc::STDOUT_FILENO;
+use print::first::list_first;
 use resolve::list;
 use resolve::run;
 ghost use mathlib.Core.Bool.{true};
 ghost use mathlib.Core.Path.{_≡_};
-ghost use Prim.Native.Nat.{_≤_};
+ghost use Prim.Native.Nat.{_≤_, min};
 ghost use lib.ListN.{length, replicate};
 ghost use Rattle.resolve.specs.ListAnswer.{listLeft};
 ghost use Rattle.resolve.specs.RunAnswer.{runLeft};
@@ -67,15 +68,23 @@ fn write_page(page: &[u8; 65536], n: usize) -> usize
     write_bytes(part(page, 0, n))
 }
 
-// The lines have at most 16,384 nodes, of at most 40 bytes each with what is printed around them, and 256 numbers: 64 pages hold them.
-fn write_list(program: &[u8], job: &[u8], answer: answers::list::Answer, cells: &[u16]) -> Written
+// Page after page of a listing, whose first page is there: `first` bytes of it are text. The lines have at most 16,384 nodes, of at most 40
+// bytes each with what is printed around them, and 256 numbers: 64 pages hold them.
+fn write_list(
+    program: &[u8],
+    job: &[u8],
+    answer: answers::list::Answer,
+    cells: &[u16],
+    first: usize,
+    page: &mut [u8; 65536],
+) -> Written
+    requires { ⌜ first ≡ min 65536 (length (listedText (now program) (now job) (now cells) answer)) ⌝ }
     ensures { λ r. ⌜ (r .whole ≡ true → r .bytes ≡ length (listedText (now (program .entry)) (now (job .entry)) (now (cells .entry)) answer)) ⌝ }
 {
-    let mut page = io::large_buffer();
+    let mut n = first;
     let mut bytes: usize = 0;
     for k in 0..64u32 {
-        let n = list_page(program, job, answer, cells, k, &mut page);
-        let taken = write_page(&page, n);
+        let taken = write_page(page, n);
         bytes += taken;
         if taken < n {
             return Written {
@@ -89,6 +98,7 @@ fn write_list(program: &[u8], job: &[u8], answer: answers::list::Answer, cells: 
                 whole: true,
             };
         }
+        n = list_page(program, job, answer, cells, k + 1, page);
     }
     Written {
         bytes: bytes,
@@ -129,8 +139,10 @@ pub fn list_texts(program: &[u8], job: &[u8]) -> Written
     let mut answer_space = [0u16; list::ANSWER];
     let work: &mut [u16] = &mut work_space;
     let answer: &mut [u16] = &mut answer_space;
-    let said = list::list(program, job, work, answer);
-    write_list(program, job, said, answer)
+    let mut page = io::large_buffer();
+    let listed = list_first(program, job, work, answer, &mut page);
+    let said = listed.answer;
+    write_list(program, job, said, answer, listed.bytes, &mut page)
 }
 
 // Writes the line of the program's run on the job's inputs.

@@ -1,5 +1,5 @@
 -- What `look` means: the value of the expression that a `cons?` tests, by what kind of tree it is. Nothing that was used changes.
-use Prim.Native.Nat.{ℕ, zero, suc, _+_, _-_, _*_, _%_, _≤_, _<_, min}
+use Prim.Native.Nat.{ℕ, zero, suc, _+_, _-_, _*_, _/_, _%_, _≤_, _<_, min}
 use mathlib.Core.Path.{_≡_, refl, ap, _∙_, sym as inv}
 use mathlib.Core.Bool.{Bool, true, false, cond}
 use mathlib.Core.List.{List, [], _∷_}
@@ -8,13 +8,13 @@ use native.Mathlib.Omega.{arith}
 use lib.Dec.{eqb, ltb, leb}
 use lib.ListN.{length, getD}
 use lib.Seq.{sets, length-sets}
-use borrow.Author.Tests.{ltb-true, le-ltb, eq-eqb, ne-eqb}
+use borrow.Author.Tests.{ltb-true, le-ltb, eq-eqb, ne-eqb, eqb-false}
 use Rattle.expressions.specs.Expression.{AtomicExp, sym, avar, Exp, atm, evar, pair, nodes}
 use Rattle.expressions.specs.Substitution.{apply}
 use Rattle.expressions.specs.Contraction.{CRPair}
 use Rattle.language.specs.Program.{Term, consp, conditional, Param, pe, pa, Prog}
 use Rattle.semantics.specs.Configuration.{substOfEnv, state}
-use Rattle.sets.specs.Cells.{cells, evarCode, atomicCode}
+use Rattle.sets.specs.Cells.{cells, treeEnd, evarCode, atomicCode}
 use Rattle.sets.specs.Fill.{FillAnswer, fillAnswer}
 use Rattle.sets.specs.declared.fill.Filled.{Filled}
 use Rattle.sets.specs.declared.fill.Filled.the-variants.{Done, Over as FilledOver}
@@ -22,6 +22,7 @@ use Rattle.runs.specs.Runs.{written, run}
 use Rattle.heap.specs.declared.configuration.Configuration.{Configuration}
 use Rattle.runs.proofs.RunLaws.{Below, below-self, below-sets, run-cons}
 use Rattle.heap.proofs.HeapLaws.{Holds}
+use Rattle.heap.proofs.KnownLaws.{KnownOf}
 use Rattle.heap.proofs.NodeLaws.{holds-nodes}
 use Rattle.heap.proofs.PairLaws.{head-holds, tail-holds, head-end}
 use Rattle.linking.specs.Code.{link, linkAt}
@@ -30,14 +31,13 @@ use Rattle.linking.specs.declared.code.Link.{Link}
 use Rattle.linking.specs.Places.{envOf}
 use Rattle.constants.proofs.ConstantLaws.{Constants}
 use Rattle.constants.specs.Table.{constantAt}
-use Rattle.values.specs.Values.{onwardFill, tokenWritten, tokensWritten, ValueLeft, valueAt}
-use Rattle.values.proofs.ValueLaws.{Known}
-use Rattle.values.proofs.ArgumentLaws.{past-linked}
+use Rattle.values.specs.Values.{onwardFill, tokenWritten, tokensWritten, ValueLeft, madeOf, valueAt}
+use Rattle.values.proofs.ValueLaws.{past-linked, Known}
 use Rattle.values.proofs.RoomLaws.{value-outcome}
 use Rattle.values.proofs.RoomLaws as values
 use Rattle.values.proofs.StateLaws.{HoldsPair}
 use Rattle.values.specs.Names.{namesFrom}
-use Rattle.looking.specs.Looking.{testAt, testedBy, testedAt, LookLeft, lookLeft, testedValue, lookAt}
+use Rattle.looking.specs.Looking.{testAt, headEndIn, testedBy, testedAt, LookLeft, lookLeft, testedValue, lookAt}
 use Rattle.looking.specs.Taking.{namesAt}
 use Rattle.looking.specs.declared.look.Tested.{Tested}
 use Rattle.looking.specs.declared.look.Tested.the-variants.{Atom, Pair, Variable, Large}
@@ -85,12 +85,15 @@ module _ (code f : List ℕ) (base : ℕ) where
           let y = again m g (x .behind m refl) in record { same = record { same = λ i a. y .same .same i a ∙ x .same .same i a }; size = y .size ∙ x .size; behind = y .behind }
       go FilledOver g x again = x
 
+  made-grows : (used i past : ℕ) (h : List ℕ) → Kept used h (madeOf code f base used i past h)
+  unfolding madeOf
+  made-grows used i past h = let w = tokens-grow (past - i) used i used h (omega arith) in record { same = w .same; size = w .size }
+
   value-grows : (used i : ℕ) (h : List ℕ) → Kept used h (valueAt code f base used i h)
   unfolding valueAt
   value-grows used i h =
-      let w = tokens-grow (linkAt code i .past - i) used i used h (omega arith) in
       go (eqb (linkAt code i .mark) 2) _ _ (record { same = below-self; size = refl })
-      (go (ltb (constantAt code i .from) (constantAt code i .to)) _ _ (record { same = below-self; size = refl }) (record { same = w .same; size = w .size }))
+      (go (ltb (constantAt code i .from) (constantAt code i .to)) _ _ (record { same = below-self; size = refl }) (made-grows used i (linkAt code i .past) h))
     where
       go : (b : Bool) (u v : ValueLeft) → Kept used h u → Kept used h v → Kept used h (cond b u v)
       go true u v x y = x
@@ -158,34 +161,46 @@ first-cell : {g : List ℕ} {now from to : ℕ} {d : Exp} → Holds g now from t
 first-cell {g} {now} {from} {to} at l a r e = let z : getD g from 0 ∷ run (from + 1) to g ≡ a ∷ r = inv (run-cons from to g l) ∙ at .is ∙ e in cc
 
 -- a range that holds a tree, by its first cell
-module _ (used now from to : ℕ) (g : List ℕ) (grown : used ≤ now) (fits : now ≤ 65535) (size : length g ≡ 65535) where
-  tested-cell : (x : ℕ) → from < to → to ≤ now → getD g from 0 ≡ x → testedAt from to now g ≡ testedBy x from to now g
+module _ (used now from to k : ℕ) (g : List ℕ) (grown : used ≤ now) (fits : now ≤ 65535) (size : length g ≡ 65535) where
+  tested-cell : (x : ℕ) → from < to → to ≤ now → getD g from 0 ≡ x → testedAt from to now k g ≡ testedBy x from to now k g
   unfolding testedAt
   tested-cell x l m e = rw (le-ltb 65534 from (omega arith), e)
 
-  tested-atom : (y : AtomicExp) → Holds g now from to (atm y) → now ≤ used + 1 → Looked used g (testedAt from to now g) (atm y)
+  tested-atom : (y : AtomicExp) → Holds g now from to (atm y) → now ≤ used + 1 → Looked used g (testedAt from to now k g) (atm y)
   tested-atom y at most = let n = holds-nodes at in atomAt from to now (tested-cell (atomicCode y) (omega arith) (at .below) (first-cell at (omega arith) (atomicCode y) [] refl) ∙ by y) at grown most fits
     where
-      by : (y : AtomicExp) → testedBy (atomicCode y) from to now g ≡ Atom from to now
+      by : (y : AtomicExp) → testedBy (atomicCode y) from to now k g ≡ Atom from to now
       by (sym z) = rw (ne-eqb (4 * z + 1) 4 (λ e. omega arith), ne-eqb ((4 * z + 1) % 4) 2 (λ e. omega arith))
       by (avar z) = rw (ne-eqb (4 * z + 3) 4 (λ e. omega arith), ne-eqb ((4 * z + 3) % 4) 2 (λ e. omega arith))
 
-  tested-variable : (v : ℕ) → Holds g now from to (evar v) → Looked used g (testedAt from to now g) (evar v)
+  tested-variable : (v : ℕ) → Holds g now from to (evar v) → Looked used g (testedAt from to now k g) (evar v)
   tested-variable v at =
       let n = holds-nodes at in
       variableAt {v = v} (tested-cell (evarCode v) (omega arith) (at .below) (first-cell at (omega arith) (evarCode v) [] refl) ∙ rw (ne-eqb (4 * v + 2) 4 (λ e. omega arith), eq-eqb ((4 * v + 2) % 4) 2 (omega arith)))
 
-  tested-pair : (a b : Exp) → Holds g now from to (pair a b) → now ≤ used + nodes (pair a b) → Looked used g (testedAt from to now g) (pair a b)
-  tested-pair a b at most =
+  -- where the head ends, known or looked for
+  head-ends : (a b : Exp) → Holds g now from to (pair a b) → KnownOf k (pair a b) → headEndIn (from + 1) (k / 2) g ≡ from + 1 + nodes a
+  head-ends a b at kn = pick (eqb (k / 2) 0) refl
+    where
+      pick : (z : Bool) → eqb (k / 2) 0 ≡ z → cond z (treeEnd g (from + 1)) (min (from + 1) 65535 + k / 2) ≡ from + 1 + nodes a
+      pick true e = head-end at (omega arith)
+      pick false e =
+          let n = eqb-false (k / 2) 0 e in
+          let h : nodes a ≡ k / 2 = kn .head (omega (arith, n)) in
+          let m = holds-nodes at in
+          omega (arith, h, m, at .below)
+
+  tested-pair : (a b : Exp) → Holds g now from to (pair a b) → KnownOf k (pair a b) → now ≤ used + nodes (pair a b) → Looked used g (testedAt from to now k g) (pair a b)
+  tested-pair a b at kn most =
       let n = holds-nodes at in
-      let t : testedAt from to now g ≡ Pair (from + 1) (min (from + 1 + nodes a) to) to now = tested-cell 4 (omega arith) (at .below) (first-cell at (omega arith) 4 _ refl) ∙ rw (head-end at (omega arith)) in
+      let t : testedAt from to now k g ≡ Pair (from + 1) (min (from + 1 + nodes a) to) to now = tested-cell 4 (omega arith) (at .below) (first-cell at (omega arith) 4 _ refl) ∙ rw (head-ends a b at kn) in
       let m : min (from + 1 + nodes a) to ≡ from + 1 + nodes a = omega arith in
       pairAt (from + 1) (from + 1 + nodes a) to now (t ∙ ap (λ (i : ℕ). Pair (from + 1) i to now) m) (head-holds at) (tail-holds at) grown most fits
 
-  tested-means : (d : Exp) → Holds g now from to d → now ≤ used + nodes d → Looked used g (testedAt from to now g) d
-  tested-means (atm y) at most = tested-atom y at most
-  tested-means (evar v) at most = tested-variable v at
-  tested-means (pair a b) at most = tested-pair a b at most
+  tested-means : (d : Exp) → Holds g now from to d → KnownOf k d → now ≤ used + nodes d → Looked used g (testedAt from to now k g) d
+  tested-means (atm y) at kn most = tested-atom y at most
+  tested-means (evar v) at kn most = tested-variable v at
+  tested-means (pair a b) at kn most = tested-pair a b at kn most
 
 -- no room for a value is one of many nodes
 large-means : (used : ℕ) (g : List ℕ) (t : Tested) (d : Exp) → t ≡ Large → 8192 < nodes d → Looked used g t d
@@ -213,4 +228,4 @@ module _ {p : Prog} {bodies : ℕ → ℕ} {code h f q : List ℕ} {c : Configur
       go : (b : namesFrom c + length (x .values) ≤ 4120) (d : Exp) → values.Outcome code f (namesFrom c) h (c .used) names (x .values) (x .typed) (names-held x few) b (c .place + 4) d →
           Looked (c .used) (valued .heap) (testedValue (valued .answer) (valued .heap)) d
       go b d (inl (o, l)) = large-means (c .used) (valued .heap) (testedValue (valued .answer) (valued .heap)) d (rw o) (omega arith)
-      go b d (inr v) = rw (v .done) (tested-means (c .used) (v .now) (v .from) (v .to) (valued .heap) (v .grown) (v .fits) (v .size) d (v .holds) (v .most))
+      go b d (inr v) = rw (v .done) (tested-means (c .used) (v .now) (v .from) (v .to) (v .known) (valued .heap) (v .grown) (v .fits) (v .size) d (v .holds) (v .knows) (v .most))

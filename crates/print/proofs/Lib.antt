@@ -7,3 +7,4 @@ pub mod NameLaws
 pub mod ListTurns
 pub mod PrintedTexts
 pub mod Printed
+pub mod FirstLaws

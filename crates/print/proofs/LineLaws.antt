@@ -16,7 +16,7 @@ use Rattle.semantics.specs.Walk.{Walked, wordOf, linesOf, countOf}
 use Rattle.listing.specs.Print.{digits, printRestriction, printLine, printLines, printWord, printListing}
 use Rattle.sets.specs.Cells.{cells, cellsAll, restrictionCells, part}
 use Rattle.sets.proofs.CellLaws.{cells-nodes, cellsAll-nodes}
-use Rattle.print.specs.declared.list.Ending.{Ending}
+use Rattle.answers.specs.declared.heading.Ending.{Ending}
 use Rattle.lines.specs.LineCells.{lineCells, linesCells}
 use Rattle.writer.specs.LineText.{bindingsText, nonEqualityText, restrictionText, classEnd, lineEnd, lineText, linesText}
 use Rattle.print.specs.ListingText.{endingWord, firstText, listingText}

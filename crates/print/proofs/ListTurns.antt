@@ -1,26 +1,37 @@
--- The functions of list.rt that read the texts again, by what was read.
-use Prim.Native.Nat.{ℕ, _-_, _*_, min}
-use mathlib.Core.Path.{_≡_, refl, ap, _∙_}
+-- What is printed of texts that were read, by what was read.
+use Prim.Native.Nat.{ℕ, _-_, min}
+use mathlib.Core.Path.{_≡_, refl, ap, ap₂, _∙_}
 use mathlib.Core.Bool.{false}
 use mathlib.Core.List.{List}
-use lib.ListN.{length, take, replicate}
-use Rattle.texts.specs.BothCells.{bothOver}
+use lib.ListN.{length, replicate}
+use Rattle.texts.specs.BothCells.{BothAnswer, bothOver}
 use Rattle.texts.specs.declared.both.Both.{Both}
-use Rattle.print.specs.declared.list.Ending.{Ending}
-use Rattle.print.specs.declared.list.Terms.{Terms}
-use Rattle.window.specs.Sink.{windowed}
-use Rattle.window.specs.TreeText.{symbolText}
-use Rattle.print.specs.ListingText.{listingText}
-use Rattle.print.specs.ListedText.{TermsLeft, termsLeft, jobTerms, namedListing}
+use Rattle.answers.specs.declared.heading.Ending.{Ending}
+use Rattle.answers.specs.Headings.{headingOf}
+use Rattle.answers.specs.declared.list.Answer.{Answer}
+use Rattle.window.specs.Sink.{windowed, Printed}
+use Rattle.print.specs.ListedText.{TermsLeft, jobTerms, termsListing, readListing, namedListing, headedText, SaidOut}
 
 -- what is written of one text is what is written of an equal one
 pub same-text : (n from : ℕ) {text text2 : List ℕ} {r : ℕ} {out : List ℕ} → text ≡ text2 → (r ≡ min n (length text - from)) × (out ≡ windowed n from text) → (r ≡ min n (length text2 - from)) × (out ≡ windowed n from text2)
 same-text n from e h = (h .0 ∙ ap (λ (t : List ℕ). min n (length t - from)) e, h .1 ∙ ap (windowed n from) e)
 
-pub named-terms : (program job cells : List ℕ) (word : Ending) (lines count : ℕ) {both : Both} {jmarks jnums symbols heap : List ℕ} {terms : Terms} → let j = bothOver false program job (replicate 8194 0) .job in
-    both ≡ j .placed .texts → jmarks ≡ j .jmarks → jnums ≡ j .jnums → symbols ≡ j .symbols →
-    termsLeft terms heap ≡ jobTerms both jmarks jnums (replicate 65535 0) →
-    listingText (symbolText program job (take (2 * terms .symbols) symbols)) (take (terms .cells) heap) word lines count cells ≡ namedListing program job cells word lines count
+-- the job's terms, by the tokens that were read
+abbrev readTerms : BothAnswer → TermsLeft
+readTerms w = let j = w .job in jobTerms (j .placed .texts) (j .jmarks) (j .jnums) (replicate 4097 0)
+
+terms-are : (w : BothAnswer) {both : Both} {jmarks jnums : List ℕ} {t : TermsLeft} → both ≡ w .job .placed .texts → jmarks ≡ w .job .jmarks → jnums ≡ w .job .jnums → t ≡ jobTerms both jmarks jnums (replicate 4097 0) → t ≡ readTerms w
+terms-are w b m n t = t ∙ rw (b, m, n) refl
+
+pub said-read : (w : BothAnswer) {size : ℕ} {program job : List ℕ} {both : Both} {jmarks jnums symbols cells : List ℕ} {t : TermsLeft} {answer : Answer} {bytes : ℕ} {page : List ℕ} →
+    both ≡ w .job .placed .texts → jmarks ≡ w .job .jmarks → jnums ≡ w .job .jnums → symbols ≡ w .job .symbols → t ≡ jobTerms both jmarks jnums (replicate 4097 0) →
+    SaidOut size program job symbols t cells answer bytes page → Printed size 0 (headedText (readListing program job w cells) (headingOf answer)) bytes page
+said-read w {size} {program} {job} {cells = cells} {answer = answer} b m n s t o =
+    same-text size 0 (ap₂ (λ (x : List ℕ) (u : TermsLeft). headedText (termsListing program job x u cells) (headingOf answer)) s (terms-are w b m n t)) (o .printed)
+
+pub named-read : (program job cells : List ℕ) (word : Ending) (lines count : ℕ) {both : Both} {jmarks jnums symbols : List ℕ} {t : TermsLeft} → let j = bothOver false program job (replicate 8194 0) .job in
+    both ≡ j .placed .texts → jmarks ≡ j .jmarks → jnums ≡ j .jnums → symbols ≡ j .symbols → t ≡ jobTerms both jmarks jnums (replicate 4097 0) →
+    termsListing program job symbols t cells word lines count ≡ namedListing program job cells word lines count
 unfolding namedListing
-named-terms program job cells word lines count b m n s t =
-    rw (ap (λ (w : TermsLeft). w .terms) t, ap (λ (w : TermsLeft). w .heap) t, b, m, n, s) refl
+named-read program job cells word lines count b m n s t =
+    ap₂ (λ (x : List ℕ) (u : TermsLeft). termsListing program job x u cells word lines count) s (terms-are (bothOver false program job (replicate 8194 0)) b m n t)

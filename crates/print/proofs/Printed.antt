@@ -5,7 +5,7 @@ use mathlib.Core.Bool.{true, false}
 use mathlib.Core.List.{List, [], _++_, append-assoc}
 use native.Mathlib.Omega.{arith}
 use lib.ListN.{length, take, drop, replicate, length-append}
-use lib.Seq.{take-at}
+use lib.Seq.{sets, length-sets, take-at}
 use Rattle.expressions.specs.Expression.{Value, atom, cons, nodes}
 use Rattle.expressions.specs.Class.{IOClass}
 use Rattle.sets.specs.Cells.{cells, cellsAll, restrictionCells}
@@ -28,53 +28,55 @@ use Rattle.semantics.proofs.AcceptedTexts.{run-answer, list-answer}
 use Rattle.listing.specs.Text.{printRefusal, printRefusalOfNeither, listText, runText}
 use Rattle.lent.specs.Storage.{zeros}
 use Rattle.texts.specs.BothCells.{BothAnswer, bothOver}
-use Rattle.texts.proofs.BothRead.{zeros-length, taken, texts-by-reading}
+use Rattle.texts.proofs.BothRead.{zeros-length, leaving, refusedTexts, taken, texts-by-reading}
 use Rattle.heap.proofs.HeapLaws.{sets-cells}
-use Rattle.runs.proofs.RunLaws.{run-drop}
-use Rattle.initial.proofs.JobLaws.{jobHeap, job-laid, laid-whole}
+use Rattle.runs.specs.Runs.{cellsAt}
+use Rattle.runs.proofs.RunLaws.{below-self, below-sets, cells-below, run-drop, sets-append}
+use Rattle.initial.proofs.JobLaws.{jobHeap, job-laid}
 use Rattle.initial.proofs.BeginTexts.{accepted-sides, job-here, job-short}
 use Rattle.lines.specs.LineCells.{linesCells}
 use Rattle.resolve.specs.RunAnswer as runs
 use Rattle.resolve.specs.ListAnswer.{worded, answerOf, cellsAfter, tooShort, listLeft}
 use Rattle.answers.specs.declared.list.Answer.{Answer}
-use Rattle.answers.specs.declared.list.Answer.the-variants.{Whole, Cut, Stop21, Stop22, Stop23, Program, Job, Short}
+use Rattle.answers.specs.Headings.{headingOf}
 use Rattle.answers.specs.declared.run.Answer.{Answer as RunAnswer}
 use Rattle.answers.specs.declared.run.Answer.the-variants.{Value as ValueOf, Over as OverOf, NotWithin as NotWithinOf, Program as RunProgram, Job as RunJob, Short as RunShort}
-use Rattle.print.specs.declared.list.Ending.{Ending}
-use Rattle.print.specs.declared.list.Ending.the-variants.{Whole as WholeWord, Cut as CutWord, Stop21 as Word21, Stop22 as Word22, Stop23 as Word23}
+use Rattle.answers.specs.declared.heading.Ending.{Ending}
+use Rattle.answers.specs.declared.heading.Ending.the-variants.{Whole as WholeWord, Cut as CutWord, Stop21 as Word21, Stop22 as Word22, Stop23 as Word23}
 use Rattle.writer.specs.declared.outcome.Outcome.{Outcome}
 use Rattle.writer.specs.declared.outcome.Outcome.the-variants.{Value as ValueOut, Over, NotWithin}
 use Rattle.window.specs.TreeText.{symbolText}
 use Rattle.print.specs.Names.{foundIn, textNames}
-use Rattle.print.specs.ListingText.{endingWord, listingText}
+use Rattle.print.specs.ListingText.{endingWord}
 use Rattle.writer.specs.OutcomeText.{outcomeText}
 use Rattle.print.specs.RanText.{namedText, ranText}
-use Rattle.print.specs.ListedText.{jobTerms, namedListing, listedText}
+use Rattle.print.specs.ListedText.{readListing, namedListing, headedText, listedText}
 use Rattle.print.proofs.OutcomeLaws.{answerOf as cellsOf, outcomeOf}
 use Rattle.print.proofs.PrintedTexts.{listing-text, outcome-text, list-refusal-text, run-refusal-text}
 
 wide : 8194 ≤ length (replicate {A = ℕ} 8194 0)
 wide = omega (arith, zeros-length 8194)
 
--- the first cells of two runs, one behind the other
-take-both : (a b r : List ℕ) → take (length a + length b) (a ++ (b ++ r)) ≡ a ++ b
-take-both a b r = ap (take (length a + length b)) (inv (append-assoc a b r)) ∙ take-at (a ++ b) r (length a + length b) (length-append a b)
+-- the first cells that are written stay, whatever is written behind them
+front-kept : (a b h : List ℕ) → length a ≤ length h → take (length a) (sets h 0 (a ++ b)) ≡ a
+front-kept a b h l =
+    let g = sets h 0 a in
+    let f = sets g (0 + length a) b in
+    let m : 0 + length a ≡ length a = omega arith in
+    let kept : cellsAt (length a) 0 f ≡ a = cells-below (below-sets (0 + length a) b (below-self {used = length a} {h = g}) (omega arith)) (length a) 0 (omega arith) ∙ sets-cells a h 0 (omega arith) in
+    let s : f ≡ a ++ drop (length a) f =
+    run-drop (length a) 0 f (omega (arith, length-sets g (0 + length a) b, length-sets h 0 a)) ∙ ap (λ (w : List ℕ). w ++ drop (0 + length a) f) kept ∙ ap (λ (k : ℕ). a ++ drop k f) m
+    in
+    ap (take (length a)) (inv (sets-append h 0 a b) ∙ s) ∙ take-at a (drop (length a) f) (length a) refl
 
 -- the inputs and the output of a job that is laid out
-laid-front : (P : IOClass) (h : List ℕ) → length h ≡ 65535 → length (cellsAll (P .con .ins)) + length (cells (P .con .out)) + length (restrictionCells (P .neqs)) ≤ 65535 →
+laid-front : (P : IOClass) (h : List ℕ) → length (cellsAll (P .con .ins)) + length (cells (P .con .out)) ≤ length h →
     take (length (cellsAll (P .con .ins)) + length (cells (P .con .out))) (jobHeap P h) ≡ cellsAll (P .con .ins) ++ cells (P .con .out)
-laid-front P h full room =
+laid-front P h room =
     let A = cellsAll (P .con .ins) in
     let B = cells (P .con .out) in
     let C = restrictionCells (P .neqs) in
-    let n = length (A ++ (B ++ C)) in
-    let z : n ≡ length A + (length B + length C) = omega (arith, length-append A (B ++ C), length-append B C) in
-    let m : 0 + n ≡ n = omega arith in
-    let s : jobHeap P h ≡ (A ++ (B ++ C)) ++ drop n (jobHeap P h) =
-    run-drop n 0 (jobHeap P h) (omega (arith, laid-whole P h full room, z)) ∙ ap (λ (w : List ℕ). w ++ drop (0 + n) (jobHeap P h)) (sets-cells (A ++ (B ++ C)) h 0 (omega (arith, z)))
-    ∙ ap (λ (k : ℕ). (A ++ (B ++ C)) ++ drop k (jobHeap P h)) m
-    in
-    ap (take (length A + length B)) (s ∙ append-assoc A (B ++ C) (drop n (jobHeap P h)) ∙ ap (λ (w : List ℕ). A ++ w) (append-assoc B C (drop n (jobHeap P h)))) ∙ take-both A B (C ++ drop n (jobHeap P h))
+    ap (λ (k : ℕ). take k (jobHeap P h)) (inv (length-append A B)) ∙ ap (λ (w : List ℕ). take (length (A ++ B)) (sets h 0 w)) (inv (append-assoc A B C)) ∙ front-kept (A ++ B) C h (omega (arith, length-append A B))
 
 embed-nodes : (v : Value) → nodes (embed v) ≡ nodesValue v
 embed-nodes (atom z) = refl
@@ -82,35 +84,16 @@ embed-nodes (cons u v) = omega (arith, embed-nodes u, embed-nodes v)
 
 module _ (program job : List ℕ) where
   -- The listing, by what is read of the texts.
-  abbrev namedBy : BothAnswer → List ℕ → Ending → ℕ → ℕ → List ℕ
-  namedBy w d word lines count =
-      let t = jobTerms (w .job .placed .texts) (w .job .jmarks) (w .job .jnums) (replicate 65535 0) in
-      listingText (symbolText program job (take (2 * t .terms .symbols) (w .job .symbols))) (take (t .terms .cells) (t .heap)) word lines count d
-
   abbrev listedBy : BothAnswer → List ℕ → Answer → List ℕ
-  listedBy w d (Whole lines count) = namedBy w d WholeWord lines count
-  listedBy w d (Cut lines count) = namedBy w d CutWord lines count
-  listedBy w d (Stop21 lines count) = namedBy w d Word21 lines count
-  listedBy w d (Stop22 lines count) = namedBy w d Word22 lines count
-  listedBy w d (Stop23 lines count) = namedBy w d Word23 lines count
-  listedBy w d (Program number offset) = printRefusal 112 number offset
-  listedBy w d (Job number offset) = printRefusal 106 number offset
-  listedBy w d Short = printRefusalOfNeither 20
+  listedBy w d a = headedText (readListing program job w d) (headingOf a)
 
   listed-is : (d : List ℕ) (a : Answer) → listedText program job d a ≡ listedBy (bothOver false program job (replicate 8194 0)) d a
   unfolding namedListing
-  listed-is d (Whole lines count) = refl
-  listed-is d (Cut lines count) = refl
-  listed-is d (Stop21 lines count) = refl
-  listed-is d (Stop22 lines count) = refl
-  listed-is d (Stop23 lines count) = refl
-  listed-is d (Program number offset) = refl
-  listed-is d (Job number offset) = refl
-  listed-is d Short = refl
+  listed-is d a = refl
 
   module _ (p : SProg) (j : SJob) (e : reading lister program job ≡ accepted p j) (s : State) (u : State) (g : JobStored program job (symbolsOf [] program) u j) (room : 2048 ≤ length (u .symbols)) (x rest : List ℕ) where
     named-text : (word : Ending) → endingWord word ≡ wordOf (walked p j) →
-        namedBy (taken s u j x) (linesCells (linesOf (walked p j)) ++ rest) word (length (linesOf (walked p j))) (countOf (walked p j)) ≡ listText program job
+        readListing program job (taken s u j x) (linesCells (linesOf (walked p j)) ++ rest) word (length (linesOf (walked p j))) (countOf (walked p j)) ≡ listText program job
     named-text word f =
         let numbers = accepted-numbers lister program job p j e .job in
         let atomic = accepted-sides lister program job p j e in
@@ -122,8 +105,8 @@ module _ (program job : List ℕ) where
         let a = cellsAll-nodes (class j .con .ins) in
         let b = cells-nodes (class j .con .out) in
         let c = restrictionCells-nodes (class j .neqs) in
-        let l = job-laid _ _ _ (class j) (replicate 65535 0) here (omega (arith, short .0, short .1)) in
-        rw (l, laid-front (class j) (replicate 65535 0) (zeros-length 65535) (omega (arith, short .0, short .1))) (listing-text program job p j u g room e word f rest)
+        let l = job-laid _ _ _ (class j) (replicate 4097 0) here (omega (arith, short .0, short .1)) in
+        rw (l, laid-front (class j) (replicate 4097 0) (omega (arith, short .0, zeros-length 4097))) (listing-text program job p j u g room e word f rest)
 
     worded-text : (w : Word) → w ≡ wordOf (walked p j) →
         listedBy (taken s u j x) (linesCells (linesOf (walked p j)) ++ rest) (worded w (length (linesOf (walked p j))) (countOf (walked p j))) ≡ listText program job
@@ -133,25 +116,36 @@ module _ (program job : List ℕ) where
     worded-text (stop stop22) f = named-text Word22 f
     worded-text (stop stop23) f = named-text Word23 f
 
-  -- "After whole or cut the answer storage holds the listing": what `list` leaves is printed as the listing of the two texts.
-  module _ (work d : List ℕ) where
+  module _ (d : List ℕ) where
     refused-printed : (t : Text) (r : Refusal) → reading lister program job ≡ rejected t r → (w : BothAnswer) → listedBy w (cellsAfter (list program job) d) (answerOf (list program job)) ≡ listText program job
     unfolding list
     refused-printed ofProgram r e w = rw e (list-refusal-text program job ofProgram r e)
     refused-printed ofJob r e w = rw e (list-refusal-text program job ofJob r e)
 
-    accepted-printed : (p : SProg) (j : SJob) → reading lister program job ≡ accepted p j → (s : State) → ProgramStored program s p → (u : State) → JobStored program job (symbolsOf [] program) u j → s .i ≤ length (s .ats) → 2048 ≤ length (u .symbols) →
-        listedBy (taken s u j (zeros (replicate 8194 0))) (cellsAfter (list program job) d) (answerOf (list program job)) ≡ listText program job
-    accepted-printed p j e s h u g few room =
-        let ls = linesOf (walked p j) in
-        ap (λ (a : meaning.Answer Listed). listedBy (taken s u j (zeros (replicate 8194 0))) (cellsAfter a d) (answerOf a)) (list-answer program job p j e)
-        ∙ worded-text p j e s u g room (zeros (replicate 8194 0)) (replicate (length d - length (linesCells ls)) 0) (wordOf (walked p j)) refl
+    -- x is the storage that is lent for the names
+    module _ (x : List ℕ) where
+      accepted-printed : (p : SProg) (j : SJob) → reading lister program job ≡ accepted p j → (s : State) → ProgramStored program s p → (u : State) → JobStored program job (symbolsOf [] program) u j → s .i ≤ length (s .ats) → 2048 ≤ length (u .symbols) →
+          listedBy (taken s u j (zeros x)) (cellsAfter (list program job) d) (answerOf (list program job)) ≡ listText program job
+      accepted-printed p j e s h u g few room =
+          let ls = linesOf (walked p j) in
+          ap (λ (a : meaning.Answer Listed). listedBy (taken s u j (zeros x)) (cellsAfter a d) (answerOf a)) (list-answer program job p j e)
+          ∙ worded-text p j e s u g room (zeros x) (replicate (length d - length (linesCells ls)) 0) (wordOf (walked p j)) refl
 
-    pub list-printed : tooShort work d ≡ false → let w = listLeft program job work d in listedText program job (w .cells) (w .answer) ≡ listText program job
+      read-printed : 8194 ≤ length x → listedBy (bothOver false program job x) (cellsAfter (list program job) d) (answerOf (list program job)) ≡ listText program job
+      read-printed l =
+          texts-by-reading false program job x l (λ w. listedBy w (cellsAfter (list program job) d) (answerOf (list program job))) (λ r. listText program job)
+          (λ t r e marks nums ends heads jmarks jnums symbols. refused-printed t r e (leaving (refusedTexts t r) marks nums ends heads jmarks jnums symbols (zeros x))) accepted-printed
+
+  -- "After whole or cut the answer storage holds the listing": what `list` leaves is printed as the listing of the two texts, by texts that are
+  -- read again or that were read before.
+  module _ (work d : List ℕ) (long : tooShort work d ≡ false) where
+    pub list-printed : let w = listLeft program job work d in listedText program job (w .cells) (w .answer) ≡ listText program job
     unfolding listLeft
-    list-printed long =
-        rw long (listed-is (cellsAfter (list program job) d) (answerOf (list program job)) ∙ texts-by-reading false program job (replicate 8194 0) wide
-        (λ w. listedBy w (cellsAfter (list program job) d) (answerOf (list program job))) (λ r. listText program job) (λ t r e marks nums ends heads jmarks jnums symbols. refused-printed t r e _) accepted-printed)
+    list-printed = rw long (listed-is (cellsAfter (list program job) d) (answerOf (list program job)) ∙ read-printed d (replicate 8194 0) wide)
+
+    pub first-printed : 8194 ≤ length work → let w = listLeft program job work d in headedText (readListing program job (bothOver false program job work) (w .cells)) (headingOf (w .answer)) ≡ listText program job
+    unfolding listLeft
+    first-printed l = rw long (read-printed d work l)
 
   -- The line of a run, by what is read of the texts.
   abbrev ranNamed : BothAnswer → List ℕ → Outcome → List ℕ

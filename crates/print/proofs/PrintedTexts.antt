@@ -15,7 +15,7 @@ use Rattle.listing.specs.Print.{printListing}
 use Rattle.listing.specs.Text.{letterOf, printRefusal, printAnswer, printRan, listText, runText}
 use Rattle.lexer.specs.Lexed.{State}
 use Rattle.syntax.proofs.JobRead.{JobStored}
-use Rattle.print.specs.declared.list.Ending.{Ending}
+use Rattle.answers.specs.declared.heading.Ending.{Ending}
 use Rattle.lines.specs.LineCells.{linesCells}
 use Rattle.window.specs.TreeText.{symbolText}
 use Rattle.print.specs.ListingText.{endingWord, listingText}

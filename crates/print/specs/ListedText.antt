@@ -3,27 +3,29 @@ use Prim.Native.Nat.{ℕ, _*_}
 use mathlib.Core.Bool.{false}
 use mathlib.Core.List.{List}
 use lib.ListN.{take, replicate}
-use Rattle.listing.specs.Text.{printRefusal, printRefusalOfNeither}
-use Rattle.texts.specs.BothCells.{bothOver}
+use Rattle.listing.specs.Text.{printRefusal}
+use Rattle.texts.specs.BothCells.{BothAnswer, bothOver}
 use Rattle.texts.specs.declared.both.Both.{Both}
 use Rattle.texts.specs.declared.both.Both.the-variants.{Accepted, Program as OfProgram, Job as OfJob, Short as TooShort}
 use Rattle.layout.specs.Laying.{jobLaid}
 use Rattle.layout.specs.declared.job.Laid.{Laid}
 use Rattle.layout.specs.declared.job.Laid.the-variants.{Done, Over}
+use Rattle.answers.specs.Headings.{headingOf}
 use Rattle.answers.specs.declared.list.Answer.{Answer}
-use Rattle.answers.specs.declared.list.Answer.the-variants.{Whole, Cut, Stop21, Stop22, Stop23, Program, Job, Short}
-use Rattle.print.specs.declared.list.Ending.{Ending}
-use Rattle.print.specs.declared.list.Ending.the-variants.{Whole as WholeOf, Cut as CutOf, Stop21 as Stop21Of, Stop22 as Stop22Of, Stop23 as Stop23Of}
+use Rattle.answers.specs.declared.heading.Ending.{Ending}
+use Rattle.answers.specs.declared.heading.Heading.{Heading}
+use Rattle.answers.specs.declared.heading.Heading.the-variants.{Listing, Refusal}
 use Rattle.print.specs.declared.list.Terms.{Terms}
+use Rattle.window.specs.Sink.{Printed}
 use Rattle.window.specs.TreeText.{symbolText}
 use Rattle.print.specs.ListingText.{listingText}
 
 pub record TermsLeft : Type 0 where
-  pub terms : Terms
-  pub heap : List ℕ
+  pub sizes : Terms
+  pub terms : List ℕ
 
 abbrev pub termsLeft : Terms → List ℕ → TermsLeft
-termsLeft t h = record { terms = t; heap = h }
+termsLeft z h = record { sizes = z; terms = h }
 
 abbrev pub termsOf : ℕ → ℕ → List ℕ → TermsLeft
 termsOf symbols cells h = termsLeft (record { symbols = symbols; cells = cells }) h
@@ -39,18 +41,26 @@ jobTerms (OfProgram number offset) jmarks jnums h = termsOf 0 0 h
 jobTerms (OfJob number offset) jmarks jnums h = termsOf 0 0 h
 jobTerms TooShort jmarks jnums h = termsOf 0 0 h
 
+-- a listing, by the table of the symbols and the cells of the job's inputs and output
+abbrev pub termsListing : List ℕ → List ℕ → List ℕ → TermsLeft → List ℕ → Ending → ℕ → ℕ → List ℕ
+termsListing program job symbols t cells word lines count =
+    listingText (symbolText program job (take (2 * t .sizes .symbols) symbols)) (take (t .sizes .cells) (t .terms)) word lines count cells
+
+-- by what was read of the texts
+abbrev pub readListing : List ℕ → List ℕ → BothAnswer → List ℕ → Ending → ℕ → ℕ → List ℕ
+readListing program job w = let j = w .job in termsListing program job (j .symbols) (jobTerms (j .placed .texts) (j .jmarks) (j .jnums) (replicate 4097 0))
+
 unfoldable pub namedListing : List ℕ → List ℕ → List ℕ → Ending → ℕ → ℕ → List ℕ
-namedListing program job cells word lines count =
-    let j = bothOver false program job (replicate 8194 0) .job in
-    let t = jobTerms (j .placed .texts) (j .jmarks) (j .jnums) (replicate 65535 0) in
-    listingText (symbolText program job (take (2 * t .terms .symbols) (j .symbols))) (take (t .terms .cells) (t .heap)) word lines count cells
+namedListing program job = readListing program job (bothOver false program job (replicate 8194 0))
+
+-- the text that begins so
+abbrev pub headedText : (Ending → ℕ → ℕ → List ℕ) → Heading → List ℕ
+headedText listing (Listing first) = listing (first .word) (first .lines) (first .count)
+headedText listing (Refusal letter number offset) = printRefusal letter number offset
+
+-- what is printed of a listing and left in a window of n bytes
+pub record SaidOut (n : ℕ) (program job symbols : List ℕ) (t : TermsLeft) (cells : List ℕ) (answer : Answer) (bytes : ℕ) (page : List ℕ) : Type 0 where
+  pub printed : Printed n 0 (headedText (termsListing program job symbols t cells) (headingOf answer)) bytes page
 
 abbrev pub listedText : List ℕ → List ℕ → List ℕ → Answer → List ℕ
-listedText program job cells (Whole lines count) = namedListing program job cells WholeOf lines count
-listedText program job cells (Cut lines count) = namedListing program job cells CutOf lines count
-listedText program job cells (Stop21 lines count) = namedListing program job cells Stop21Of lines count
-listedText program job cells (Stop22 lines count) = namedListing program job cells Stop22Of lines count
-listedText program job cells (Stop23 lines count) = namedListing program job cells Stop23Of lines count
-listedText program job cells (Program number offset) = printRefusal 112 number offset
-listedText program job cells (Job number offset) = printRefusal 106 number offset
-listedText program job cells Short = printRefusalOfNeither 20
+listedText program job cells answer = headedText (namedListing program job cells) (headingOf answer)

@@ -3,8 +3,8 @@ use Prim.Native.Nat.{ℕ}
 use mathlib.Core.List.{List, [], _∷_, _++_}
 use Rattle.semantics.specs.Walk.{stop21, stop22, stop23, Word, whole, cut, stop}
 use Rattle.listing.specs.Print.{digits, printWord}
-use Rattle.print.specs.declared.list.Ending.{Ending}
-use Rattle.print.specs.declared.list.Ending.the-variants.{Whole, Cut, Stop21, Stop22, Stop23}
+use Rattle.answers.specs.declared.heading.Ending.{Ending}
+use Rattle.answers.specs.declared.heading.Ending.the-variants.{Whole, Cut, Stop21, Stop22, Stop23}
 use Rattle.writer.specs.LineText.{linesText}
 
 -- the paper's word for each case

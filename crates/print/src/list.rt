@@ -1,4 +1,8 @@
 // The text of a listing, from the two texts and from what `resolve::list` answered and left.
+use answers::heading::Ending;
+use answers::heading::FirstLine;
+use answers::heading::Heading;
+use answers::heading::heading_of;
 use answers::list::Answer;
 use layout::job::Laid;
 use layout::job::lay_job;
@@ -11,20 +15,11 @@ use writer::line::put_lines;
 use writer::line::put_numbers;
 use writer::refusal::print_refusal;
 ghost use mathlib.Core.Path.{_≡_};
-ghost use Prim.Native.Nat.{_*_, _-_, min};
-ghost use lib.ListN.{length, take};
+ghost use Prim.Native.Nat.{_-_, min};
+ghost use lib.ListN.{length};
 ghost use Rattle.window.specs.Sink.{Wrote, windowed};
-ghost use Rattle.window.specs.TreeText.{symbolText};
-ghost use Rattle.print.specs.ListingText.{endingText, firstText, listingText};
-ghost use Rattle.print.specs.ListedText.{termsLeft, jobTerms, namedListing, listedText};
-
-enum Ending {
-    Whole,
-    Cut,
-    Stop21,
-    Stop22,
-    Stop23,
-}
+ghost use Rattle.print.specs.ListingText.{endingText, firstText};
+ghost use Rattle.print.specs.ListedText.{termsLeft, jobTerms, termsListing, namedListing, listedText};
 
 fn put_ending(out: &mut [u8], place: Place, word: Ending) -> Place
     ensures { λ r. ⌜ Wrote place (now (out .entry)) (endingText word) r (now (out .exit)) ⌝ }
@@ -49,50 +44,48 @@ fn put_ending(out: &mut [u8], place: Place, word: Ending) -> Place
 }
 
 // "First line: `whole`, `cut` or `stop21` to `stop23`, the lines, the transitions."
-fn put_first(out: &mut [u8], place: Place, word: Ending, lines: usize, count: usize) -> Place
-    ensures { λ r. ⌜ Wrote place (now (out .entry)) (firstText word lines count) r (now (out .exit)) ⌝ }
+fn put_first(out: &mut [u8], place: Place, first: FirstLine) -> Place
+    ensures { λ r. ⌜ Wrote place (now (out .entry)) (firstText (first .word) (first .lines) (first .count)) r (now (out .exit)) ⌝ }
 {
+    let word = first.word;
     let p = put_ending(out, place, word);
-    let q = put_numbers(out, p, lines, count);
+    let q = put_numbers(out, p, first.lines, first.count);
     sink::put_byte(out, q, b'\n')
 }
 
-// The bytes of a listing's text from the byte `from` on, as many as `out` has room for, then zeros; how many they are. The job's inputs and
-// output stand in the first `all` cells of `heap`, the lines one behind the other in `answer`.
-fn print_listing(
-    program: &[u8],
-    job: &[u8],
-    symbols: &[u16],
-    found: u16,
-    heap: &[u16; 65535],
-    all: usize,
-    word: Ending,
-    lines: usize,
-    count: usize,
-    answer: &[u16],
-    from: usize,
-    out: &mut [u8],
-) -> usize
-    ensures { λ r. ⌜ (let text = listingText (symbolText (now (program .entry)) (now (job .entry)) (take (2 * found) (now (symbols .entry)))) (take all (now (heap .entry))) word lines count (now (answer .entry)) in (r ≡ min (length (now (out .entry))) (length text - from)) × (now (out .exit) ≡ windowed (length (now (out .entry))) from text)) ⌝ }
-{
-    let table = front(symbols, 2 * (found as usize));
-    sink::clear(out);
-    let start = sink::opened(from);
-    let p = put_first(out, start, word, lines, count);
-    let job_cells = front(heap, all);
-    let q = put_lines(out, p, program, job, table, job_cells, lines, answer);
-    sink::written(q)
-}
-
 // How many symbols both texts have, and how many cells the job's inputs and output take.
-struct Terms {
+pub(crate) struct Terms {
     symbols: u16,
     cells: usize,
 }
 
-// The job's inputs and output, laid out in the heap again. Nothing of texts that are refused.
-fn job_terms(both: Both, jmarks: &[u16], jnums: &[u16], heap: &mut [u16; 65535]) -> Terms
-    ensures { λ r. ⌜ termsLeft r (now (heap .exit)) ≡ jobTerms both (now (jmarks .entry)) (now (jnums .entry)) (now (heap .entry)) ⌝ }
+// The bytes of a listing's text from the byte `from` on, as many as `out` has room for, then zeros; how many they are. The job's inputs and
+// output stand in the first cells of `terms`, the lines one behind the other in `answer`.
+pub(crate) fn print_listing(
+    program: &[u8],
+    job: &[u8],
+    symbols: &[u16],
+    terms: &[u16],
+    sizes: Terms,
+    first: FirstLine,
+    answer: &[u16],
+    from: usize,
+    out: &mut [u8],
+) -> usize
+    ensures { λ r. ⌜ (let text = termsListing (now (program .entry)) (now (job .entry)) (now (symbols .entry)) (termsLeft sizes (now (terms .entry))) (now (answer .entry)) (first .word) (first .lines) (first .count) in (r ≡ min (length (now (out .entry))) (length text - from)) × (now (out .exit) ≡ windowed (length (now (out .entry))) from text)) ⌝ }
+{
+    let table = front(symbols, 2 * (sizes.symbols as usize));
+    sink::clear(out);
+    let start = sink::opened(from);
+    let p = put_first(out, start, first);
+    let job_cells = front(terms, sizes.cells);
+    let q = put_lines(out, p, program, job, table, job_cells, first.lines, answer);
+    sink::written(q)
+}
+
+// The job's inputs and output, laid out again from its tokens. Nothing of texts that are refused.
+pub(crate) fn job_terms(both: Both, jmarks: &[u16], jnums: &[u16], terms: &mut [u16]) -> Terms
+    ensures { λ r. ⌜ termsLeft r (now (terms .exit)) ≡ jobTerms both (now (jmarks .entry)) (now (jnums .entry)) (now (terms .entry)) ⌝ }
 {
     match both {
         Both::Accepted {
@@ -101,7 +94,7 @@ fn job_terms(both: Both, jmarks: &[u16], jnums: &[u16], heap: &mut [u16; 65535])
             parts,
             numerals: _,
         } => {
-            let laid = lay_job(jmarks, jnums, parts, heap, false);
+            let laid = lay_job(jmarks, jnums, parts, terms, false);
             match laid {
                 Laid::Done(sizes) => Terms {
                     symbols: symbols,
@@ -138,14 +131,12 @@ fn job_terms(both: Both, jmarks: &[u16], jnums: &[u16], heap: &mut [u16; 65535])
 fn print_named(
     program: &[u8],
     job: &[u8],
-    word: Ending,
-    lines: usize,
-    count: usize,
+    first: FirstLine,
     cells: &[u16],
     from: usize,
     out: &mut [u8],
 ) -> usize
-    ensures { λ r. ⌜ (let text = namedListing (now (program .entry)) (now (job .entry)) (now (cells .entry)) word lines count in (r ≡ min (length (now (out .entry))) (length text - from)) × (now (out .exit) ≡ windowed (length (now (out .entry))) from text)) ⌝ }
+    ensures { λ r. ⌜ (let text = namedListing (now (program .entry)) (now (job .entry)) (now (cells .entry)) (first .word) (first .lines) (first .count) in (r ≡ min (length (now (out .entry))) (length text - from)) × (now (out .exit) ≡ windowed (length (now (out .entry))) from text)) ⌝ }
 {
     let mut marks: [u16; 4097] = [0; 4097];
     let mut nums: [u16; 4097] = [0; 4097];
@@ -155,7 +146,7 @@ fn print_named(
     let mut jnums: [u16; 4097] = [0; 4097];
     let mut symbols: [u16; 2048] = [0; 2048];
     let mut work: [u16; 8194] = [0; 8194];
-    let mut heap: [u16; 65535] = [0; 65535];
+    let mut terms: [u16; 4097] = [0; 4097];
     let both = read_both(
         false,
         program,
@@ -169,17 +160,14 @@ fn print_named(
         &mut symbols,
         &mut work,
     );
-    let terms = job_terms(both, &jmarks, &jnums, &mut heap);
+    let sizes = job_terms(both, &jmarks, &jnums, &mut terms);
     print_listing(
         program,
         job,
         &symbols,
-        terms.symbols,
-        &heap,
-        terms.cells,
-        word,
-        lines,
-        count,
+        &terms,
+        sizes,
+        first,
         cells,
         from,
         out,
@@ -198,24 +186,13 @@ pub fn print_list(
 ) -> usize
     ensures { λ r. ⌜ (let text = listedText (now (program .entry)) (now (job .entry)) (now (cells .entry)) answer in (r ≡ min (length (now (out .entry))) (length text - from)) × (now (out .exit) ≡ windowed (length (now (out .entry))) from text)) ⌝ }
 {
-    match answer {
-        Answer::Whole { lines, count } => {
-            print_named(program, job, Ending::Whole, lines, count, cells, from, out)
-        }
-        Answer::Cut { lines, count } => {
-            print_named(program, job, Ending::Cut, lines, count, cells, from, out)
-        }
-        Answer::Stop21 { lines, count } => {
-            print_named(program, job, Ending::Stop21, lines, count, cells, from, out)
-        }
-        Answer::Stop22 { lines, count } => {
-            print_named(program, job, Ending::Stop22, lines, count, cells, from, out)
-        }
-        Answer::Stop23 { lines, count } => {
-            print_named(program, job, Ending::Stop23, lines, count, cells, from, out)
-        }
-        Answer::Program { number, offset } => print_refusal(b'p', number, offset, from, out),
-        Answer::Job { number, offset } => print_refusal(b'j', number, offset, from, out),
-        Answer::Short => print_refusal(b'-', 20, 0, from, out),
+    let heading = heading_of(answer);
+    match heading {
+        Heading::Listing(first) => print_named(program, job, first, cells, from, out),
+        Heading::Refusal {
+            letter,
+            number,
+            offset,
+        } => print_refusal(letter, number, offset, from, out),
     }
 }

@@ -107,7 +107,7 @@ module _ (p : Prog) (bodies : ℕ → ℕ) (code : List ℕ) (K₀ : Configurati
           )
 
     -- the records that stay
-    forgotten : Kept h saved (c .used) (olderUsed saved (pos .top) base) cs × (usedAt saved (olderUsed saved (pos .top) base) ≤ 16384)
+    forgotten : Kept h saved (c .used) (olderUsed saved (pos .top) base) cs × (usedAt saved (olderUsed saved (pos .top) base) ≤ 32768)
     forgotten =
         let k = a .kept in
         let l = saves-first p bodies code K₀ N y₁ b₀ (k .saves) in
@@ -117,10 +117,10 @@ module _ (p : Prog) (bodies : ℕ → ℕ) (code : List ℕ) (K₀ : Configurati
         let h′ : Holding saved (olderUsed saved (pos .top) base) (s .qs ++ (s .r ∷ [])) = subst (λ (rs : List Record). Holding saved (olderUsed saved (pos .top) base) rs) (inv e ∙ s .is) (o .holds) in
         (record { older = s .qs; last = s .r; holding = h′; saves = s .saves }, low-of (o .k) (o .low) (l .0) (o .holds))
       where
-        one : {t : ℕ} (l : List Record) → Holding saved t (take 1 (b₀ ∷ l)) → usedAt saved t ≤ 16384
+        one : {t : ℕ} (l : List Record) → Holding saved t (take 1 (b₀ ∷ l)) → usedAt saved t ≤ 32768
         one l x = omega (arith, used-means [] b₀ x, low-base)
 
-        low-of : {t : ℕ} (k : ℕ) → (k ≡ 1) ⊎ (usedAt saved t ≤ 16384) → (l : List Record) → Holding saved t (take k (b₀ ∷ l)) → usedAt saved t ≤ 16384
+        low-of : {t : ℕ} (k : ℕ) → (k ≡ 1) ⊎ (usedAt saved t ≤ 32768) → (l : List Record) → Holding saved t (take k (b₀ ∷ l)) → usedAt saved t ≤ 32768
         low-of k (inr m) l x = m
         low-of {t} k (inl e) l x = one l (subst (λ (i : ℕ). Holding saved t (take i (b₀ ∷ l))) e x)
 

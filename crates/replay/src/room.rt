@@ -69,3 +69,21 @@ pub fn make_room(
     }
     p
 }
+
+// The same, for a caller that has room nearly always: only where there is none is the position handed on.
+pub fn have_room(
+    heap: &mut [u16; 65535],
+    frame: &mut [u16; 12360],
+    saved: &[u16; 16384],
+    p: Position,
+    base: usize,
+) -> Position
+    ensures { λ r. ⌜ roomLeft r (now (heap .exit)) (now (frame .exit)) ≡ madeRoom base p (now (saved .entry)) (now (heap .entry)) (now (frame .entry)) ⌝ }
+{
+    let n = p.node;
+    let c = n.at;
+    if is_tight(c.used, used_at(saved, p.top)) {
+        return make_room(heap, frame, saved, p, base);
+    }
+    p
+}

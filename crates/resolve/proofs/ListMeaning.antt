@@ -1,6 +1,6 @@
 -- `list`: what it answers and leaves over two texts is what its definition says.
 use Prim.Native.Nat.{ℕ, zero, suc, _-_, _≤_, _<_}
-use mathlib.Core.Path.{_≡_, refl, ap, subst, _∙_, sym as inv}
+use mathlib.Core.Path.{_≡_, refl, ap, ap₂, subst, _∙_, sym as inv}
 use mathlib.Core.Bool.{Bool, true, false, cond}
 use mathlib.Core.List.{List, [], _++_}
 use mathlib.Core.Option.{Option, none, some}
@@ -49,7 +49,7 @@ use Rattle.turns.specs.declared.found.Walked.{Walked as Came}
 use Rattle.walk.proofs.JobLaws.{Leaves, begun-means}
 use Rattle.texts.specs.BothCells.{BothAnswer, bothOver}
 use Rattle.resolve.specs.ListAnswer.{ListLeft, worded, answerOf, linesThen, cellsAfter}
-use Rattle.resolve.specs.ListCells.{cameTo, ListOut, walkLeft, listBehind, listTexts}
+use Rattle.resolve.specs.ListCells.{cameTo, ReadLeft, readLeft, ListOut, listedRead, listBehind, listTexts}
 use Rattle.texts.specs.declared.both.Both.{Both}
 use Rattle.texts.specs.declared.both.Both.the-variants.{Accepted as Taken}
 use Rattle.answers.specs.declared.list.Answer.{Answer as Outcome}
@@ -63,19 +63,21 @@ abbrev leftOf : Outcome → List ℕ → List ℕ → ListLeft
 leftOf r work d = record { answer = r; work = work; cells = d }
 
 -- what `list_texts` leaves behind both texts
-pub list-left : (program job work d : List ℕ) {t u : Both} {marks nums ends heads jmarks jnums symbols x b : List ℕ} {o : Outcome} → LeftBy t marks nums ends heads jmarks jnums symbols x (bothOver false program job work) → t ≡ u →
-    ListOut o x b (listBehind d (leaving u marks nums ends heads jmarks jnums symbols x)) → ListOut o x b (listTexts program job work d)
+pub list-left : (program job work d : List ℕ) {t : Both} {marks nums ends heads jmarks jnums symbols x b : List ℕ} {o : Outcome} → LeftBy t marks nums ends heads jmarks jnums symbols x (bothOver false program job work) →
+    readLeft o b ≡ listedRead t marks nums ends heads jmarks jnums d → ListOut o x b (listTexts program job work d)
 unfolding listTexts
-list-left program job work d {x = x} {b = b} {o = o} is f h = subst (λ (w : BothAnswer). ListOut o x b (listBehind d w)) (both-are {w = bothOver false program job work} is f) h
+list-left program job work d {t} {x = x} {b = b} {o = o} is h =
+    subst (λ (w : BothAnswer). ListOut o x b (listBehind d w)) (both-are {w = bothOver false program job work} is refl) (ap (λ (w : ReadLeft). w .answer) h, refl, ap (λ (w : ReadLeft). w .cells) h)
 
-pub walked-behind : (d marks nums ends heads jmarks jnums : List ℕ) (c : ℕ) (e : JobEnds) (k : Numerals) {x a b code : List ℕ} {body : ℕ} {r : Came} {o : Outcome} → code ≡ programLinked marks nums ends heads c (replicate 24582 0) → body ≡ mainBody marks heads → a ≡ zeros d →
-    jobLeft r b ≡ walkJob code body jmarks jnums e k a → o ≡ cameTo r → ListOut o x b (listBehind d (leaving (Taken c 0 e k) marks nums ends heads jmarks jnums [] x))
-walked-behind d marks nums ends heads jmarks jnums c e k {a = a} {code = code} {body = body} l m z h g =
+pub walked-behind : (d marks nums ends heads jmarks jnums : List ℕ) (c n : ℕ) (e : JobEnds) (k : Numerals) {a b code : List ℕ} {body : ℕ} {r : Came} {o : Outcome} → code ≡ programLinked marks nums ends heads c (replicate 24582 0) → body ≡ mainBody marks heads → a ≡ zeros d →
+    jobLeft r b ≡ walkJob code body jmarks jnums e k a → o ≡ cameTo r → readLeft o b ≡ listedRead (Taken c n e k) marks nums ends heads jmarks jnums d
+unfolding listedRead
+walked-behind d marks nums ends heads jmarks jnums c n e k {a = a} {code = code} {body = body} l m z h g =
     let v =
     h ∙ ap (λ (s : List ℕ). walkJob s body jmarks jnums e k a) l ∙ ap (λ (i : ℕ). walkJob (programLinked marks nums ends heads c (replicate 24582 0)) i jmarks jnums e k a) m
     ∙ ap (walkJob (programLinked marks nums ends heads c (replicate 24582 0)) (mainBody marks heads) jmarks jnums e k) z
     in
-    (g ∙ ap (λ (w : JobLeft). cameTo (w .walked)) v, refl, ap (λ (w : JobLeft). w .answer) v)
+    ap₂ readLeft (g ∙ ap (λ (w : JobLeft). cameTo (w .walked)) v) (ap (λ (w : JobLeft). w .answer) v)
 
 -- the answer by its definition, over an answer storage as long as d
 abbrev saidOf : List ℕ → List ℕ → Walked → ListLeft
@@ -96,6 +98,10 @@ leaves-cells w v d h l =
     let c = linesCells (linesOf w) in
     let n : h .lines .spare ≡ length d - length c = omega (arith, l, ap length (h .lines .stored), length-append c (lines.zeros (h .lines .spare)), zeros-length (h .lines .spare)) in
     h .lines .stored ∙ ap (λ (k : ℕ). c ++ replicate k 0) n
+
+-- what a walk came to, by its answer
+abbrev walkLeft : List ℕ → JobLeft → ListLeft
+walkLeft x v = leftOf (cameTo (v .walked)) x (v .answer)
 
 leaves-said : (w : Walked) (v : JobLeft) (x d : List ℕ) → Leaves w v → length (v .answer) ≡ length d → walkLeft x v ≡ saidOf x d w
 leaves-said w v x d h l =
@@ -190,7 +196,7 @@ module _ (program job : List ℕ) (p : SProg) (j : SJob) (e : reading lister pro
       by-start (some K) f a l = leaves-said (back K f) (walks (begun .answer)) x d (walk-leaves K f a) l ∙ same-said x d (back K f) found (found-back K f)
 
       pub accepted-means : length (listBehind d (taken s u j x) .cells) ≡ length d → listBehind d (taken s u j x) ≡ saidOf x d found
-      unfolding walkJob
+      unfolding walkJob listedRead
       accepted-means l = by-start (start (prog p) (class j)) refl begins l
 
 -- Any two texts.
@@ -217,6 +223,7 @@ module _ (program job work d : List ℕ) (wide : 8194 ≤ length work) (long : a
       pick false i = ap saidBy e
 
   refused-said : (t : Text) (r : Refusal) (marks nums ends heads jmarks jnums symbols : List ℕ) → listBehind d (leaving (refusedTexts t r) marks nums ends heads jmarks jnums symbols (zeros work)) ≡ saidBy (rejected t r)
+  unfolding listedRead
   refused-said ofProgram r marks nums ends heads jmarks jnums symbols = refl
   refused-said ofJob r marks nums ends heads jmarks jnums symbols = refl
 

@@ -34,25 +34,34 @@ cameTo w = endedAs (w .ending) (w .found)
 abbrev pub ListOut : Answer → List ℕ → List ℕ → ListLeft → Type 0
 ListOut r work d w = (r ≡ w .answer) × (work ≡ w .work) × (d ≡ w .cells)
 
--- what a walk came to, by its answer
-abbrev pub walkLeft : List ℕ → JobLeft → ListLeft
-walkLeft work w = record { answer = cameTo (w .walked); work = work; cells = w .answer }
+-- an answer and the answer storage
+pub record ReadLeft : Type 0 where
+  pub answer : Answer
+  pub cells : List ℕ
+
+abbrev pub readLeft : Answer → List ℕ → ReadLeft
+readLeft r d = record { answer = r; cells = d }
 
 -- the walk of accepted texts, whose parts stand in the storages, or a refusal
-abbrev pub afterBoth : (ℕ → JobEnds → Numerals → JobLeft) → List ℕ → List ℕ → Both → ListLeft
-afterBoth f work d (Accepted c n e k) = walkLeft work (f c e k)
-afterBoth f work d (OfProgram number offset) = record { answer = Program number offset; work = work; cells = d }
-afterBoth f work d (OfJob number offset) = record { answer = Job number offset; work = work; cells = d }
-afterBoth f work d TooShort = record { answer = Short; work = work; cells = d }
+abbrev pub afterBoth : (ℕ → JobEnds → Numerals → JobLeft) → List ℕ → Both → ReadLeft
+afterBoth f d (Accepted c n e k) = let w = f c e k in readLeft (cameTo (w .walked)) (w .answer)
+afterBoth f d (OfProgram number offset) = readLeft (Program number offset) d
+afterBoth f d (OfJob number offset) = readLeft (Job number offset) d
+afterBoth f d TooShort = readLeft Short d
 
 -- a program of c definitions, linked, and a job
 abbrev pub walkedTexts : List ℕ → List ℕ → List ℕ → List ℕ → List ℕ → List ℕ → List ℕ → ℕ → JobEnds → Numerals → JobLeft
 walkedTexts marks nums ends heads jmarks jnums a c e k = walkJob (programLinked marks nums ends heads c (replicate 24582 0)) (mainBody marks heads) jmarks jnums e k a
 
+-- both texts as they were read
+unfoldable pub listedRead : Both → List ℕ → List ℕ → List ℕ → List ℕ → List ℕ → List ℕ → List ℕ → ReadLeft
+listedRead both marks nums ends heads jmarks jnums d = afterBoth (walkedTexts marks nums ends heads jmarks jnums (zeros d)) d both
+
+abbrev pub withWork : List ℕ → ReadLeft → ListLeft
+withWork work w = record { answer = w .answer; work = work; cells = w .cells }
+
 abbrev pub listBehind : List ℕ → BothAnswer → ListLeft
-listBehind d w =
-    let j = w .job in
-    afterBoth (walkedTexts (w .marks) (w .nums) (j .placed .ends) (j .placed .heads) (j .jmarks) (j .jnums) (zeros d)) (j .work) d (j .placed .texts)
+listBehind d w = let j = w .job in withWork (j .work) (listedRead (j .placed .texts) (w .marks) (w .nums) (j .placed .ends) (j .placed .heads) (j .jmarks) (j .jnums) d)
 
 unfoldable pub listTexts : List ℕ → List ℕ → List ℕ → List ℕ → ListLeft
 listTexts program job work d = listBehind d (bothOver false program job work)

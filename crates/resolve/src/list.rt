@@ -16,7 +16,7 @@ ghost use Rattle.language.specs.JobCheck.{lister};
 ghost use Rattle.language.specs.Reading.{accepted, reading};
 ghost use Rattle.resolve.specs.ListAnswer.{listLeft};
 ghost use Rattle.resolve.specs.ListDemand.{Ended, StoredListing};
-ghost use Rattle.resolve.specs.ListCells.{cameTo, ListOut, listTexts};
+ghost use Rattle.resolve.specs.ListCells.{cameTo, readLeft, listedRead, ListOut, listTexts};
 
 // The least lengths of the lent storages, in cells.
 pub const WORK: usize = 8194;
@@ -40,6 +40,40 @@ fn came_to(w: Walked) -> Answer
     }
 }
 
+// What was read of both texts: an accepted program linked and walked from the job's start. The lines stand in `answer`, zeros behind them; a
+// refusal leaves it as it is.
+pub fn list_read(
+    both: Both,
+    marks: &[u16],
+    nums: &[u16],
+    ends: &[u16],
+    heads: &[u16; 64],
+    jmarks: &[u16],
+    jnums: &[u16],
+    answer: &mut [u16],
+) -> Answer
+    ensures { λ r. ⌜ readLeft r (now (answer .exit)) ≡ listedRead both (now (marks .entry)) (now (nums .entry)) (now (ends .entry)) (now (heads .entry)) (now (jmarks .entry)) (now (jnums .entry)) (now (answer .entry)) ⌝ }
+{
+    match both {
+        Both::Program { number, offset } => Answer::Program { number, offset },
+        Both::Job { number, offset } => Answer::Job { number, offset },
+        Both::Short => Answer::Short,
+        Both::Accepted {
+            count,
+            symbols: _,
+            parts,
+            numerals,
+        } => {
+            let mut code: [u16; 24582] = [0; 24582];
+            link_program(marks, nums, ends, heads, count, &mut code);
+            let body = main_body(marks, heads);
+            clear(answer);
+            let walked = walk_job(&code, body, jmarks, jnums, parts, numerals, answer);
+            came_to(walked)
+        }
+    }
+}
+
 // The two texts, into storage that is long enough.
 fn list_texts(program: &[u8], job: &[u8], work: &mut [u16], answer: &mut [u16]) -> Answer
     ensures { λ r. ⌜ ListOut r (now (work .exit)) (now (answer .exit)) (listTexts (now (program .entry)) (now (job .entry)) (now (work .entry)) (now (answer .entry))) ⌝ }
@@ -51,7 +85,6 @@ fn list_texts(program: &[u8], job: &[u8], work: &mut [u16], answer: &mut [u16]) 
     let mut jmarks: [u16; 4097] = [0; 4097];
     let mut jnums: [u16; 4097] = [0; 4097];
     let mut symbols: [u16; 2048] = [0; 2048];
-    let mut code: [u16; 24582] = [0; 24582];
     let both = read_both(
         false,
         program,
@@ -65,23 +98,7 @@ fn list_texts(program: &[u8], job: &[u8], work: &mut [u16], answer: &mut [u16]) 
         &mut symbols,
         work,
     );
-    match both {
-        Both::Program { number, offset } => Answer::Program { number, offset },
-        Both::Job { number, offset } => Answer::Job { number, offset },
-        Both::Short => Answer::Short,
-        Both::Accepted {
-            count,
-            symbols: _,
-            parts,
-            numerals,
-        } => {
-            link_program(&marks, &nums, &ends, &heads, count, &mut code);
-            let body = main_body(&marks, &heads);
-            clear(answer);
-            let walked = walk_job(&code, body, &jmarks, &jnums, parts, numerals, answer);
-            came_to(walked)
-        }
-    }
+    list_read(both, &marks, &nums, &ends, &heads, &jmarks, &jnums, answer)
 }
 
 // Walks the program from the job's start by figure 10 of 001. The lines stand in `answer`, zeros behind them; `work` is zero after the

@@ -1,5 +1,5 @@
 -- What is written behind a run, and what stays below it.
-use Prim.Native.Nat.{ℕ, zero, suc, _+_, _-_, _*_, _≤_, _<_, min}
+use Prim.Native.Nat.{ℕ, zero, suc, _+_, _-_, _*_, _%_, _≤_, _<_, min}
 use mathlib.Core.Path.{_≡_, refl, ap, ap₂, subst, _∙_, sym as inv}
 use mathlib.Core.Bool.{Bool, true, false, cond, not}
 use mathlib.Core.List.{List, [], _∷_, _++_, append-assoc}
@@ -10,12 +10,15 @@ use native.Mathlib.Numerals.{add-one}
 use lib.Dec.{eqb, ltb, leb}
 use lib.ListN.{length, drop, getD, set, length-append}
 use lib.Seq.{sets, drop-cons, getD-set-other}
-use borrow.Author.Tests.{le-leb, lt-leb, lt-ltb, le-ltb, ltb-false, eq-eqb, ne-eqb, eqb-true, eqb-false}
+use borrow.Author.Tests.{le-leb, lt-leb, lt-ltb, le-ltb, ltb-true, ltb-false, eq-eqb, ne-eqb, eqb-true, eqb-false}
 use Rattle.sets.specs.Cells.{anyCell}
 use Rattle.sets.specs.Fill.{FillAnswer, fillAnswer, spread}
 use Rattle.sets.specs.declared.fill.Filled.{Filled}
 use Rattle.sets.specs.declared.fill.Filled.the-variants.{Done, Over}
-use Rattle.runs.specs.Runs.{metOf, cellsAt, run, oneMore, countIn, firstIn, lacksEight, renamedCell, spreadSize, written, appended, appendedFilled}
+use Rattle.runs.specs.declared.run.Seen.{Seen}
+use Rattle.runs.specs.declared.run.Replaced.{Replaced}
+use Rattle.runs.specs.declared.run.Replaced.the-variants.{Over as ReplacedOver}
+use Rattle.runs.specs.Runs.{metOf, cellsAt, run, oneMore, countIn, seenIn, firstIn, lacksNext, passedAt, variableMet, anyVariable, renamedCell, spreadSize, written, appended, appendedFilled, unmoved, movedBy, replaceAnswer, movedAnswer, replaced}
 
 -- two heaps are the same below a place
 pub record Below (used : ℕ) (h g : List ℕ) : Type 0 where
@@ -130,7 +133,7 @@ size-is x v (c ∷ s) = length-append (cond (eqb c x) v (c ∷ [])) (spread x v 
     pick true = refl
     pick false = refl
 
--- turns of `stands`: x was met before, or stands in what is left
+-- turns of `stands_below`: x was met before, or stands in what is left
 abbrev pub metOr : ℕ → Bool → Bool
 metOr n b = cond (eqb n 1) true b
 
@@ -165,8 +168,8 @@ pair-done used a b h l =
     let f : used + 2 ≡ suc (suc used) = omega arith in
     rw (written-done used 3 (4 ∷ (a ∷ (b ∷ []))) h l, e, f)
 
-pub filled-none : (from to x vfrom vto used : ℕ) (h : List ℕ) → 65535 < used → appendedFilled from to x vfrom vto used h ≡ fillAnswer Over h
-filled-none from to x vfrom vto used h l = written-over used _ _ h (omega arith)
+pub clipped : (end used : ℕ) → end ≤ used → end ≡ min end used
+clipped end used l = omega arith
 
 -- `append_filled` by the numbers that its code has
 module _ (from to x vfrom vto used : ℕ) (h : List ℕ) (end vend size all : ℕ)
@@ -198,7 +201,7 @@ module _ {used : ℕ} {h g : List ℕ} (same : Below used h g) (x vfrom vend i e
         let n : size ≡ length (run vfrom vend g) = is-size ∙ inv (length-cellsAt (vend - vfrom) vfrom g) in
         rw (turn-made, n, sets-append h k (run vfrom vend g) (spread x (run vfrom vend g) (run (i + 1) end g)), spread-here x (run vfrom vend g) i end g more (inv (same .same i (omega arith)) ∙ p))
 
--- turns of `occurrences`
+-- turns of `look_through`
 module _ (x i end : ℕ) (g : List ℕ) where
   pub count-next : (n : ℕ) → i < end → n + countIn x (run i end g) ≡ oneMore n (getD g i 0) x + countIn x (run (i + 1) end g)
   unfolding countIn
@@ -218,6 +221,81 @@ one-more-least n c x = pick (eqb c x)
     pick : (b : Bool) → cond b (n + 1) n ≤ n + 1
     pick true = omega arith
     pick false = omega arith
+
+-- turns of `look_through`: a variable was met before, or stands in what is left
+pub variable-next : (n i end : ℕ) (g : List ℕ) → i < end → metOr n (anyVariable (run i end g)) ≡ metOr (variableMet n (getD g i 0)) (anyVariable (run (i + 1) end g))
+unfolding anyVariable
+variable-next n i end g l = rw (run-cons i end g l) (pick (ltb (getD g i 0 % 4) 2))
+  where
+    pick : (b : Bool) → metOr n (cond b (anyVariable (run (i + 1) end g)) true) ≡ metOr (cond b n 1) (anyVariable (run (i + 1) end g))
+    pick true = refl
+    pick false = met-all (eqb n 1)
+
+pub variable-done : (n i end : ℕ) (g : List ℕ) → end ≤ i → metOr n (anyVariable (run i end g)) ≡ eqb n 1
+unfolding anyVariable
+variable-done n i end g l = rw (run-end i end g l) (met-none (eqb n 1))
+
+-- where no variable stands, a code of one does not
+pub none-stands : (x : ℕ) (s : List ℕ) → 2 ≤ x % 4 → anyVariable s ≡ false → anyCell x s ≡ false
+unfolding anyVariable anyCell
+none-stands x [] v e = refl
+none-stands x (c ∷ s) v e = pick (ltb (c % 4) 2) refl e (none-stands x s v)
+  where
+    pick : (b : Bool) → ltb (c % 4) 2 ≡ b → cond b (anyVariable s) true ≡ false → (anyVariable s ≡ false → anyCell x s ≡ false) → cond (eqb c x) true (anyCell x s) ≡ false
+    pick true l f again =
+        let m : c % 4 < 2 = ltb-true (c % 4) 2 l in
+        rw (ne-eqb c x (λ z. let w : c % 4 ≡ x % 4 = ap (λ (k : ℕ). k % 4) z in omega arith)) (again f)
+    pick false l f again = let z : _≡_ {A = ℕ} 0 1 = cc in absurd (omega arith)
+
+-- x is counted where it stands
+pub count-none : (x : ℕ) (s : List ℕ) → countIn x s ≡ 0 → anyCell x s ≡ false
+unfolding countIn anyCell
+count-none x [] e = refl
+count-none x (c ∷ s) e = pick (eqb c x) e (count-none x s)
+  where
+    pick : (b : Bool) → cond b 1 0 + countIn x s ≡ 0 → (countIn x s ≡ 0 → anyCell x s ≡ false) → cond b true (anyCell x s) ≡ false
+    pick true f again = let z : ⊥ = omega arith in absurd z
+    pick false f again = again (omega arith)
+
+-- `replace` by the numbers that its code has
+module _ (from to x vfrom vto used : ℕ) (h : List ℕ) where
+  pub replaced-none : 65535 < used → replaced from to x vfrom vto used h ≡ replaceAnswer ReplacedOver h
+  unfolding replaced
+  replaced-none l = rw (lt-ltb 65535 used l)
+
+  module _ (in-heap : used ≤ 65535) where
+    pub replaced-lacks : countIn x (run from (min to used) h) ≡ 0 → replaced from to x vfrom vto used h ≡ replaceAnswer (unmoved (anyVariable (run from (min to used) h))) h
+    unfolding replaced
+    replaced-lacks e = rw (le-ltb 65535 used in-heap, e)
+
+    pub replaced-has : (countIn x (run from (min to used) h) ≡ 0 → ⊥) → replaced from to x vfrom vto used h ≡ movedAnswer (appendedFilled from to x vfrom vto used h)
+    unfolding replaced
+    replaced-has e = rw (le-ltb 65535 used in-heap, ne-eqb (countIn x (run from (min to used) h)) 0 e)
+
+    module _ (end : ℕ) (is-end : end ≡ min to used) (s : Seen) (seen : s ≡ seenIn x (run from end h)) where
+      count-is : countIn x (run from (min to used) h) ≡ s .count
+      count-is = ap (λ (k : ℕ). countIn x (run from k h)) (inv is-end) ∙ inv (ap (λ (t : Seen). t .count) seen)
+
+      variables-are : anyVariable (run from (min to used) h) ≡ s .variables
+      variables-are = ap (λ (k : ℕ). anyVariable (run from k h)) (inv is-end) ∙ inv (ap (λ (t : Seen). t .variables) seen)
+
+      pub replaced-unmoved : s .count ≡ 0 → (r : Replaced) → r ≡ unmoved (s .variables) → replaceAnswer r h ≡ replaced from to x vfrom vto used h
+      replaced-unmoved e r is = ap (λ (q : Replaced). replaceAnswer q h) (is ∙ ap unmoved (inv variables-are)) ∙ inv (replaced-lacks (count-is ∙ e))
+
+      pub replaced-moved : (s .count ≡ 0 → ⊥) → (w : Filled) (g : List ℕ) → fillAnswer w g ≡ appendedFilled from end x vfrom vto used h → (r : Replaced) → r ≡ movedBy w →
+          replaceAnswer r g ≡ replaced from to x vfrom vto used h
+      replaced-moved e w g made r is =
+          let m : min end used ≡ min to used = omega arith in
+          let f : fillAnswer w g ≡ appendedFilled from to x vfrom vto used h = made ∙ rw m in
+          ap (λ (q : Replaced). replaceAnswer q g) is ∙ ap movedAnswer f ∙ inv (replaced-has (λ z. e (inv count-is ∙ z)))
+
+-- a single cell that is not x
+pub one-lacks : (c x : ℕ) → eqb c x ≡ false → anyCell x (c ∷ []) ≡ false
+unfolding anyCell
+one-lacks c x e = rw e
+
+pub seen-count : (x from end : ℕ) (h : List ℕ) (s : Seen) → s ≡ seenIn x (run from end h) → s .count ≡ countIn x (run from end h)
+seen-count x from end h s e = ap (λ (t : Seen). t .count) e
 
 -- `filled_size` by the count
 count-least : (x : ℕ) (s : List ℕ) → countIn x s ≤ length s
@@ -252,7 +330,7 @@ pub product-least : (n size : ℕ) → size ≤ 65535 → n * size ≤ 65535 * n
 product-least zero size l = omega (arith, zero-mul size)
 product-least (suc n) size l = omega (arith, suc-mul n size, product-least n size l)
 
-size-one : (x : ℕ) (s : List ℕ) → spreadSize x 1 s ≡ length s
+pub size-one : (x : ℕ) (s : List ℕ) → spreadSize x 1 s ≡ length s
 unfolding spreadSize
 size-one x [] = refl
 size-one x (c ∷ s) = pick (eqb c x) (size-one x s)
@@ -272,18 +350,26 @@ first-behind x (suc m) n i h e = let k : i + suc m ≡ i + 1 + m = omega arith i
     pick true again f = let z : _≡_ {A = ℕ} 0 1 = cc in absurd (omega arith)
     pick false again f = again f
 
-pub lacks-eight : (x i to : ℕ) (h : List ℕ) → lacksEight i to x h ≡ true → (i + 8 ≤ to) × (firstIn x (to - i) i h ≡ firstIn x (to - (i + 8)) (i + 8) h)
-lacks-eight x i to h e = pick (ltb (to - i) 8) (anyCell x (run i (i + 8) h)) refl refl e
+pub lacks-next : (n x i to : ℕ) (h : List ℕ) → i ≤ to → lacksNext n i to x h ≡ true → (i + n ≤ to) × (firstIn x (to - i) i h ≡ firstIn x (to - (i + n)) (i + n) h)
+lacks-next n x i to h in-run e = pick (ltb (to - i) n) (anyCell x (run i (i + n) h)) refl refl e
   where
-    pick : (a b : Bool) → ltb (to - i) 8 ≡ a → anyCell x (run i (i + 8) h) ≡ b → cond a false (not b) ≡ true → (i + 8 ≤ to) × (firstIn x (to - i) i h ≡ firstIn x (to - (i + 8)) (i + 8) h)
+    pick : (a b : Bool) → ltb (to - i) n ≡ a → anyCell x (run i (i + n) h) ≡ b → cond a false (not b) ≡ true → (i + n ≤ to) × (firstIn x (to - i) i h ≡ firstIn x (to - (i + n)) (i + n) h)
     pick true b u v w = let z : _≡_ {A = ℕ} 0 1 = cc in absurd (omega arith)
     pick false true u v w = let z : _≡_ {A = ℕ} 0 1 = cc in absurd (omega arith)
     pick false false u v w =
-        let l : 8 ≤ to - i = ltb-false (to - i) 8 u in
-        let n : i + 8 - i ≡ 8 = omega arith in
-        let f : anyCell x (cellsAt 8 i h) ≡ false = ap (λ (k : ℕ). anyCell x (cellsAt k i h)) (inv n) ∙ v in
-        let m : to - i ≡ 8 + (to - (i + 8)) = omega arith in
-        (omega arith, ap (λ (k : ℕ). firstIn x k i h) m ∙ first-behind x 8 (to - (i + 8)) i h f)
+        let l : n ≤ to - i = ltb-false (to - i) n u in
+        let k : i + n - i ≡ n = omega arith in
+        let f : anyCell x (cellsAt n i h) ≡ false = ap (λ (k : ℕ). anyCell x (cellsAt k i h)) (inv k) ∙ v in
+        let m : to - i ≡ n + (to - (i + n)) = omega arith in
+        (omega arith, ap (λ (k : ℕ). firstIn x k i h) m ∙ first-behind x n (to - (i + n)) i h f)
+
+pub passes : (x i to n : ℕ) (h : List ℕ) → i ≤ to → n ≡ passedAt i to x h → 0 < n → (i + n ≤ to) × (firstIn x (to - i) i h ≡ firstIn x (to - (i + n)) (i + n) h)
+passes x i to n h l is more = pick (lacksNext 64 i to x h) (lacksNext 8 i to x h) refl refl is
+  where
+    pick : (a b : Bool) → lacksNext 64 i to x h ≡ a → lacksNext 8 i to x h ≡ b → n ≡ cond a 64 (cond b 8 0) → (i + n ≤ to) × (firstIn x (to - i) i h ≡ firstIn x (to - (i + n)) (i + n) h)
+    pick true b u v w = rw w (lacks-next 64 x i to h l u)
+    pick false true u v w = rw w (lacks-next 8 x i to h l v)
+    pick false false u v w = let z : ⊥ = omega arith in absurd z
 
 module _ (x i to : ℕ) (h : List ℕ) where
   pub first-here : i < to → getD h i 0 ≡ x → firstIn x (to - i) i h ≡ i

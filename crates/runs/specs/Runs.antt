@@ -1,5 +1,5 @@
 -- Runs of a heap, and what is written behind them, for cells of any content. Nothing here asks for a length.
-use Prim.Native.Nat.{ℕ, zero, suc, _+_, _-_, min}
+use Prim.Native.Nat.{ℕ, zero, suc, _+_, _-_, _%_, min}
 use mathlib.Core.Bool.{Bool, true, false, cond, not}
 use mathlib.Core.List.{List, [], _∷_}
 use lib.Dec.{eqb, ltb, leb}
@@ -7,7 +7,11 @@ use lib.ListN.{getD, set}
 use lib.Seq.{sets}
 use Rattle.sets.specs.Cells.{pairCode, anyCell}
 use Rattle.sets.specs.Fill.{FillAnswer, fillAnswer, spread}
+use Rattle.sets.specs.declared.fill.Filled.{Filled}
 use Rattle.sets.specs.declared.fill.Filled.the-variants.{Done, Over}
+use Rattle.runs.specs.declared.run.Seen.{Seen}
+use Rattle.runs.specs.declared.run.Replaced.{Replaced}
+use Rattle.runs.specs.declared.run.Replaced.the-variants.{Closed, Open, Done as ReplacedDone, Over as ReplacedOver}
 
 -- n cells from a place on
 unfoldable pub cellsAt : ℕ → ℕ → List ℕ → List ℕ
@@ -33,13 +37,30 @@ unfoldable pub countIn : ℕ → List ℕ → ℕ
 countIn x [] = 0
 countIn x (c ∷ s) = cond (eqb c x) 1 0 + countIn x s
 
+-- 1 once a variable was met, whose code is 4 n + 2 or 4 n + 3
+abbrev pub variableMet : ℕ → ℕ → ℕ
+variableMet n c = cond (ltb (c % 4) 2) n 1
+
+unfoldable pub anyVariable : List ℕ → Bool
+anyVariable [] = false
+anyVariable (c ∷ s) = cond (ltb (c % 4) 2) (anyVariable s) true
+
+-- how often x stands in cells, and whether any variable does
+abbrev pub seenIn : ℕ → List ℕ → Seen
+seenIn x s = record { count = countIn x s; variables = anyVariable s }
+
 -- the first place of x among n cells, and the place behind them where there is none
 unfoldable pub firstIn : ℕ → ℕ → ℕ → List ℕ → ℕ
 firstIn x zero i h = i
 firstIn x (suc n) i h = cond (eqb (getD h i 0) x) i (firstIn x n (i + 1) h)
 
-abbrev pub lacksEight : ℕ → ℕ → ℕ → List ℕ → Bool
-lacksEight i to x h = cond (ltb (to - i) 8) false (not (standsInRun i (i + 8) x h))
+-- whether the next n cells are there and x stands in none
+abbrev pub lacksNext : ℕ → ℕ → ℕ → ℕ → List ℕ → Bool
+lacksNext n i to x h = cond (ltb (to - i) n) false (not (standsInRun i (i + n) x h))
+
+-- how many cells can be passed at once
+abbrev pub passedAt : ℕ → ℕ → ℕ → List ℕ → ℕ
+passedAt i to x h = cond (lacksNext 64 i to x h) 64 (cond (lacksNext 8 i to x h) 8 0)
 
 abbrev pub renamedCell : ℕ → ℕ → ℕ → ℕ
 renamedCell c x y = cond (eqb c x) y c
@@ -62,6 +83,32 @@ abbrev pub appendedFilled : ℕ → ℕ → ℕ → ℕ → ℕ → ℕ → List
 appendedFilled from to x vfrom vto used h =
     written used (spreadSize x (min vto used - vfrom) (run from (min to used) h))
     (spread x (run vfrom (min vto used) h) (run from (min to used) h)) h
+
+-- what is left of a run that has no x
+abbrev pub unmoved : Bool → Replaced
+unmoved true = Open
+unmoved false = Closed
+
+abbrev pub movedBy : Filled → Replaced
+movedBy (Done k) = ReplacedDone k
+movedBy Over = ReplacedOver
+
+pub record ReplaceAnswer : Type 0 where
+  pub answer : Replaced
+  pub cells : List ℕ
+
+abbrev pub replaceAnswer : Replaced → List ℕ → ReplaceAnswer
+replaceAnswer r h = record { answer = r; cells = h }
+
+abbrev pub movedAnswer : FillAnswer → ReplaceAnswer
+movedAnswer w = replaceAnswer (movedBy (w .answer)) (w .cells)
+
+-- a run in which x stands is filled; of another it is told whether a variable stands in it
+unfoldable pub replaced : ℕ → ℕ → ℕ → ℕ → ℕ → ℕ → List ℕ → ReplaceAnswer
+replaced from to x vfrom vto used h =
+    let s = run from (min to used) h in
+    cond (ltb 65535 used) (replaceAnswer ReplacedOver h)
+    (cond (eqb (countIn x s) 0) (replaceAnswer (unmoved (anyVariable s)) h) (movedAnswer (appendedFilled from to x vfrom vto used h)))
 
 abbrev pub appendedPair : ℕ → ℕ → ℕ → List ℕ → FillAnswer
 appendedPair head tail used h = written used 3 (pairCode ∷ (head ∷ (tail ∷ []))) h

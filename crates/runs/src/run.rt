@@ -3,10 +3,10 @@ use sets::cell;
 use sets::fill::Filled;
 ghost use mathlib.Core.Path.{_≡_};
 ghost use mathlib.Core.List.{_∷_, []};
-ghost use Prim.Native.Nat.{min, _+_, _-_, _≤_, _<_};
+ghost use Prim.Native.Nat.{min, _+_, _-_, _*_, _≤_, _<_};
 ghost use lib.Seq.{sets};
 ghost use Rattle.sets.specs.Fill.{fillAnswer, spread};
-ghost use Rattle.runs.specs.Runs.{metOf, standsInRun, run, oneMore, countIn, lacksEight, firstIn, renamedCell, spreadSize, appended, appendedFilled, appendedPair};
+ghost use Rattle.runs.specs.Runs.{metOf, standsInRun, run, oneMore, countIn, variableMet, seenIn, lacksNext, passedAt, firstIn, renamedCell, spreadSize, appended, appendedFilled, unmoved, movedBy, replaceAnswer, replaced, appendedPair};
 
 // The cells of the heap.
 pub const SIZE: usize = 65535;
@@ -32,11 +32,11 @@ fn stands_below(heap: &[u16; 65535], from: usize, to: usize, x: u16) -> bool
     n == 1
 }
 
-// The same for a run of which any part may lie behind the heap.
-pub fn stands(heap: &[u16; 65535], from: usize, to: usize, x: u16) -> bool
-    ensures { λ r. ⌜ r ≡ standsInRun from (min to 65535) x (now (heap .entry)) ⌝ }
+// 1 once a variable was met.
+fn met_variable(n: u16, code: u16) -> u16
+    ensures { λ r. ⌜ r ≡ variableMet n code ⌝ }
 {
-    stands_below(heap, from, cell::least(to, SIZE), x)
+    if code % 4 < 2 { n } else { 1 }
 }
 
 // One more where the cell is x.
@@ -47,45 +47,69 @@ fn one_more(n: u16, code: u16, x: u16) -> u16
     if code == x { n + 1 } else { n }
 }
 
-// How often x stands in a run.
-fn occurrences(heap: &[u16; 65535], from: usize, to: usize, x: u16) -> u16
+// How often x stands in a run, and whether any variable does.
+struct Seen {
+    count: u16,
+    variables: bool,
+}
+
+fn look_through(heap: &[u16; 65535], from: usize, to: usize, x: u16) -> Seen
     requires { ⌜ to ≤ 65535 ⌝ }
-    ensures { λ r. ⌜ r ≡ countIn x (run from to (now (heap .entry))) ⌝ }
+    ensures { λ r. ⌜ r ≡ seenIn x (run from to (now (heap .entry))) ⌝ }
 {
     let mut n: u16 = 0;
+    let mut v: u16 = 0;
     let mut i = from;
     while i < to {
         n = one_more(n, heap[i], x);
+        v = met_variable(v, heap[i]);
         i += 1;
     }
-    n
+    Seen {
+        count: n,
+        variables: v == 1,
+    }
 }
 
-// The cells of a run when each x becomes `size` cells.
-fn filled_size(heap: &[u16; 65535], from: usize, to: usize, x: u16, size: usize) -> usize
-    requires { ⌜ (to ≤ 65535) × (size ≤ 65535) ⌝ }
+// The cells of a run when each x, which stands in it n times, becomes `size` cells.
+fn filled_size(heap: &[u16; 65535], from: usize, to: usize, x: u16, n: u16, size: usize) -> usize
+    requires { ⌜ (to ≤ 65535) × (size ≤ 65535) × (n ≡ countIn x (run from to (now heap))) ⌝ }
     ensures { λ r. ⌜ r ≡ spreadSize x size (run from to (now (heap .entry))) ⌝ }
 {
     if to < from {
         return 0;
     }
-    let n = occurrences(heap, from, to, x) as usize;
-    (to - from) + n * size - n
+    let k = n as usize;
+    (to - from) + k * size - k
 }
 
-// Whether the next eight cells are there and x stands in none.
-fn lacks_eight(heap: &[u16; 65535], i: usize, to: usize, x: u16) -> bool
+// Whether the next n cells are there and x stands in none.
+fn lacks_next(heap: &[u16; 65535], i: usize, to: usize, x: u16, n: usize) -> bool
     requires { ⌜ (i ≤ to) × (to ≤ 65535) ⌝ }
-    ensures { λ r. ⌜ r ≡ lacksEight i to x (now (heap .entry)) ⌝ }
+    ensures { λ r. ⌜ r ≡ lacksNext n i to x (now (heap .entry)) ⌝ }
 {
-    if to - i < 8 {
+    if to - i < n {
         return false;
     }
-    if stands_below(heap, i, i + 8, x) {
+    if stands_below(heap, i, i + n, x) {
         false
     } else {
         true
     }
+}
+
+// How many cells can be passed at once.
+fn passed(heap: &[u16; 65535], i: usize, to: usize, x: u16) -> usize
+    requires { ⌜ (i ≤ to) × (to ≤ 65535) ⌝ }
+    ensures { λ r. ⌜ r ≡ passedAt i to x (now (heap .entry)) ⌝ }
+{
+    if lacks_next(heap, i, to, x, 64) {
+        return 64;
+    }
+    if lacks_next(heap, i, to, x, 8) {
+        return 8;
+    }
+    0
 }
 
 // The first place of x in a run, and `to` where there is none.
@@ -95,8 +119,9 @@ fn find(heap: &[u16; 65535], from: usize, to: usize, x: u16) -> usize
 {
     let mut i = from;
     while i < to {
-        if lacks_eight(heap, i, to, x) {
-            i += 8;
+        let n = passed(heap, i, to, x);
+        if 0 < n {
+            i += n;
             continue;
         }
         if heap[i] == x {
@@ -176,26 +201,24 @@ fn fill(
     }
 }
 
-// The run with the run from `vfrom` up to `vto` in the place of each x, at `used`. Where it is over, all stays as it was.
-pub fn append_filled(
+// The run, in which x stands n times, with the run from `vfrom` up to `vto` in the place of each, at `used`. Where it is over, all stays as it was.
+fn append_filled(
     heap: &mut [u16; 65535],
     from: usize,
-    to: usize,
+    end: usize,
     x: u16,
+    n: u16,
     vfrom: usize,
     vto: usize,
     used: usize,
 ) -> Filled
-    ensures { λ r. ⌜ fillAnswer r (now (heap .exit)) ≡ appendedFilled from to x vfrom vto used (now (heap .entry)) ⌝ }
+    requires { ⌜ (end ≤ used) × (used ≤ 65535) × (n ≡ countIn x (run from end (now heap))) ⌝ }
+    ensures { λ r. ⌜ fillAnswer r (now (heap .exit)) ≡ appendedFilled from end x vfrom vto used (now (heap .entry)) ⌝ }
 {
-    if SIZE < used {
-        return Filled::Over;
-    }
-    let end = cell::least(to, used);
     let vend = cell::least(vto, used);
     let start = cell::least(vfrom, vend);
     let size = vend - start;
-    let all = filled_size(heap, from, end, x, size);
+    let all = filled_size(heap, from, end, x, n, size);
     if SIZE - used < all {
         return Filled::Over;
     }
@@ -206,6 +229,60 @@ pub fn append_filled(
     }
     fill(heap, from, end, x, start, vend, used);
     Filled::Done(used + all)
+}
+
+// What became of a run in which x was to be replaced. Closed: no variable stands in it. Open: x does not, another may. Done: it stands filled behind what
+// was used, and this is used now. Over: there is no room for it.
+pub enum Replaced {
+    Closed,
+    Open,
+    Done(usize),
+    Over,
+}
+
+fn without(variables: bool) -> Replaced
+    ensures { λ r. ⌜ r ≡ unmoved variables ⌝ }
+{
+    if variables {
+        Replaced::Open
+    } else {
+        Replaced::Closed
+    }
+}
+
+fn moved_by(w: Filled) -> Replaced
+    ensures { λ r. ⌜ r ≡ movedBy w ⌝ }
+{
+    match w {
+        Filled::Done(k) => Replaced::Done(k),
+        Filled::Over => Replaced::Over,
+    }
+}
+
+// The run, as far as it lies below `used`, with the run from `vfrom` up to `vto` in the place of each x, at `used`; nothing is written where x does not stand
+// in it.
+pub fn replace(
+    heap: &mut [u16; 65535],
+    from: usize,
+    to: usize,
+    x: u16,
+    vfrom: usize,
+    vto: usize,
+    used: usize,
+) -> Replaced
+    ensures { λ r. ⌜ replaceAnswer r (now (heap .exit)) ≡ replaced from to x vfrom vto used (now (heap .entry)) ⌝ }
+{
+    if SIZE < used {
+        return Replaced::Over;
+    }
+    let end = cell::least(to, used);
+    let s = look_through(heap, from, end, x);
+    let n = s.count;
+    if n == 0 {
+        return without(s.variables);
+    }
+    let w = append_filled(heap, from, end, x, n, vfrom, vto, used);
+    moved_by(w)
 }
 
 // A pair of two leaves, at `used`.

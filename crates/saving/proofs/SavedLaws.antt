@@ -1,16 +1,16 @@
 -- What `older_used` and `save` mean: of the records that are held the newer ones may be forgotten, and one more is held, or not.
-use Prim.Native.Nat.{ℕ, zero, suc, _+_, _-_, _≤_, _<_, min}
+use Prim.Native.Nat.{ℕ, zero, suc, _+_, _-_, _*_, _≤_, _<_, min}
 use mathlib.Core.Path.{_≡_, refl, ap, _∙_, sym as inv}
-use mathlib.Core.Bool.{Bool, true, false, _&&_}
+use mathlib.Core.Bool.{Bool, true, false, cond, _&&_}
 use mathlib.Core.List.{List, [], _∷_, _++_}
 use mathlib.Core.Logic.{_⊎_, inl, inr}
 use native.Mathlib.Omega.{arith}
 use native.Mathlib.Decide.{decLe}
-use lib.Dec.{leb}
+use lib.Dec.{leb, ltb}
 use lib.ListN.{length, take}
 use borrow.Author.Tests.{le-leb, lt-leb, leb-true}
-use Rattle.saving.specs.Heads.{usedAt}
-use Rattle.saving.specs.Saving.{sizeOf, isLow, olderTop, olderUsed, placeFor, SaveLeft, savedAt, savedTo}
+use Rattle.saving.specs.Heads.{usedAt, depthAt, beginsAt}
+use Rattle.saving.specs.Saving.{sizeOf, allowedAt, isLow, olderTop, olderUsed, placeFor, SaveLeft, savedAt, savedTo}
 use Rattle.saving.specs.Records.{Record, recordOf, recordCells, Fits, Holding}
 use Rattle.saving.specs.declared.head.Node.{Node}
 use Rattle.saving.proofs.OlderTurns.{older-end, older-here, older-turn}
@@ -59,13 +59,13 @@ module _ {s : List ℕ} {top : ℕ} {rs : List Record} (x : Holding s top rs) (d
       let z : topOf rs (m + (length rs - m)) ≡ top = rw e (holding-all x) in
       rw z at (found (length rs - m) (omega arith) .1)
 
--- the first k records are held, m of them at least, and the last has at most a quarter of the heap in use where there are more than m
+-- the first k records are held, m of them at least, and the last has at most half of the heap in use where there are more than m
 pub record OlderHeld (s : List ℕ) (rs : List Record) (m t : ℕ) : Type 0 where
   pub k : ℕ
   pub least : m ≤ k
   pub most : k ≤ length rs
   pub holds : Holding s t (take k rs)
-  pub low : (k ≡ m) ⊎ (usedAt s t ≤ 16384)
+  pub low : (k ≡ m) ⊎ (usedAt s t ≤ 32768)
 
 -- the first k records are held, m of them at least, and one more or not
 pub record SaveHeld (rs : List Record) (r : Record) (m : ℕ) (w : SaveLeft) : Type 0 where
@@ -83,10 +83,20 @@ abbrev nothing : Record
 nothing = record { at = record { inputs = 0; outputs = 0; entries = 0; used = 0; neqs = 0; place = 0; counter = 0 }; steps = 0; depth = 0; entries = []; sides = [] }
 
 module _ {s : List ℕ} {top : ℕ} {rs : List Record} (x : Holding s top rs) (m base : ℕ) (bottom : base ≡ topOf rs m) (in-rs : m ≤ length rs) where
-  low-used : (t : ℕ) → isLow s 16384 16384 t ≡ true → usedAt s t ≤ 16384
-  low-used t e = leb-true (usedAt s t) 16384 (second-true (leb t 16384) (leb (usedAt s t) 16384) e)
+  allowed-most : (t : ℕ) → allowedAt s 16384 t ≤ 32768
+  unfolding allowedAt
+  allowed-most t = pick (ltb (min (depthAt s (beginsAt s t)) 65535 + 8) (depthAt s t))
+    where
+      pick : (b : Bool) → cond b (2 * min 16384 65535) (min 16384 65535) ≤ 32768
+      pick true = omega arith
+      pick false = omega arith
 
-  low-of : (k t : ℕ) → (k ≡ m) ⊎ (isLow s 16384 16384 t ≡ true) → (k ≡ m) ⊎ (usedAt s t ≤ 16384)
+  low-used : (t : ℕ) → isLow s 16384 16384 t ≡ true → usedAt s t ≤ 32768
+  low-used t e =
+      let l = leb-true (usedAt s t) (allowedAt s 16384 t) (second-true (leb t 16384) (leb (usedAt s t) (allowedAt s 16384 t)) e) in
+      omega (arith, l, allowed-most t)
+
+  low-of : (k t : ℕ) → (k ≡ m) ⊎ (isLow s 16384 16384 t ≡ true) → (k ≡ m) ⊎ (usedAt s t ≤ 32768)
   low-of k t (inl e) = inl e
   low-of k t (inr e) = inr (low-used t e)
 

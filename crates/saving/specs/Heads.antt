@@ -41,6 +41,9 @@ nodeAt s h = record {
   depth = numberAt s h 1;
 }
 
+abbrev pub depthAt : List ℕ → ℕ → ℕ
+depthAt s top = numberAt s (headStart top) 1
+
 abbrev pub usedAt : List ℕ → ℕ → ℕ
 usedAt s top = numberAt s (headStart top) 5
 

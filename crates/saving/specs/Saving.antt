@@ -1,10 +1,10 @@
 -- Saving and going back, for cells of any content.
-use Prim.Native.Nat.{ℕ, zero, suc, _+_, _-_, min}
+use Prim.Native.Nat.{ℕ, zero, suc, _+_, _-_, _*_, min}
 use mathlib.Core.Bool.{Bool, cond, _&&_}
 use mathlib.Core.List.{List}
 use lib.Dec.{leb, ltb}
 use Rattle.sets.specs.Cells.{copied}
-use Rattle.saving.specs.Heads.{entryCells, sideCells, headStored, headStart, nodeAt, usedAt, beginsAt}
+use Rattle.saving.specs.Heads.{entryCells, sideCells, headStored, headStart, nodeAt, usedAt, depthAt, beginsAt}
 use Rattle.saving.specs.declared.head.Node.{Node}
 use Rattle.saving.specs.declared.saved.Back.{Back}
 
@@ -17,8 +17,12 @@ stored f q n at s =
     headStored n (min at 16384 + entryCells (n .at .entries) + sideCells (n .at .neqs))
     (copied q 0 (sideCells (n .at .neqs)) (copied f 0 (entryCells (n .at .entries)) s (min at 16384) .cells) (min at 16384 + entryCells (n .at .entries)) .cells)
 
+-- twice as much where many choices lie between a record and the one before it
+unfoldable pub allowedAt : List ℕ → ℕ → ℕ → ℕ
+allowedAt s used t = cond (ltb (min (depthAt s (beginsAt s t)) 65535 + 8) (depthAt s t)) (2 * min used 65535) (min used 65535)
+
 abbrev pub isLow : List ℕ → ℕ → ℕ → ℕ → Bool
-isLow s size used t = leb t size && leb (usedAt s t) used
+isLow s size used t = leb t size && leb (usedAt s t) (allowedAt s used t)
 
 -- the top without newer records; fuel for as many of them as can be
 unfoldable pub olderFrom : List ℕ → ℕ → ℕ → ℕ → ℕ → ℕ → ℕ

@@ -4,7 +4,7 @@ use heap::entry;
 use sets::cell;
 ghost use mathlib.Core.Path.{_≡_};
 ghost use Prim.Native.Nat.{_-_};
-ghost use Rattle.saving.specs.Heads.{entryCells, sideCells, numberAt, headStart, nodeAt, headStored, usedAt, beginsAt};
+ghost use Rattle.saving.specs.Heads.{entryCells, sideCells, numberAt, headStart, nodeAt, headStored, usedAt, depthAt, beginsAt};
 
 // The cells of the storage.
 pub const LENGTH: usize = 16384;
@@ -98,6 +98,13 @@ pub fn used_at(saved: &[u16; 16384], top: usize) -> usize
     ensures { λ r. ⌜ r ≡ usedAt (now (saved .entry)) top ⌝ }
 {
     number(saved, head_start(top), 5)
+}
+
+// How many choices lead to the configuration whose record ends at `top`.
+pub(crate) fn depth_at(saved: &[u16; 16384], top: usize) -> usize
+    ensures { λ r. ⌜ r ≡ depthAt (now (saved .entry)) top ⌝ }
+{
+    number(saved, head_start(top), 1)
 }
 
 // Where the record begins that ends at `top`.

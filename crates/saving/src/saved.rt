@@ -4,17 +4,17 @@ use crate::head;
 use crate::head::LENGTH;
 use crate::head::Node;
 use sets::cell;
-ghost use mathlib.Core.Bool.{_&&_};
 ghost use mathlib.Core.Path.{_≡_};
-ghost use lib.Dec.{leb};
-ghost use Rattle.saving.specs.Heads.{usedAt};
-ghost use Rattle.saving.specs.Saving.{sizeOf, stored, olderTop, olderUsed, placeFor, saveLeft, savedTo, loadLeft, loaded};
+ghost use Rattle.saving.specs.Saving.{sizeOf, stored, allowedAt, isLow, olderTop, olderUsed, placeFor, saveLeft, savedTo, loadLeft, loaded};
 
 // Where this storage is full, the records stay that end in its first half.
 const HALF: usize = 8192;
 
-// Where the heap is full, those stay that have at most a quarter of it in use.
+// Where the heap is full, those stay that have at most a quarter of it in use, or half of it where the records before them were forgotten.
 const QUARTER: usize = 16384;
+
+// Between two records that follow each other in storage there are at most so many choices, unless those between were forgotten.
+const GAP: usize = 8;
 
 // No configuration has more in use.
 const ALL: usize = 65535;
@@ -48,12 +48,25 @@ fn store(frame: &[u16; 12360], q: &[u16; 4096], saved: &mut [u16; 16384], n: Nod
     head::store_head(saved, n, h);
 }
 
-// Whether the records up to t take at most `size` cells and the last of them has at most `used` cells of the heap in use.
+// How much of the heap the record that ends at t may have in use where others may `used`: twice as much where many choices lie between it and the one
+// before it. Of a long path a record stays each time that newer ones are forgotten, and going back works out what lies between two of them, not all again.
+fn allowed(saved: &[u16; 16384], t: usize, used: usize) -> usize
+    ensures { λ r. ⌜ r ≡ allowedAt (now (saved .entry)) used t ⌝ }
+{
+    let n = cell::least(used, ALL);
+    let before = head::depth_at(saved, head::begins_at(saved, t));
+    if cell::least(before, ALL) + GAP < head::depth_at(saved, t) {
+        return 2 * n;
+    }
+    n
+}
+
+// Whether the records up to t take at most `size` cells and the last of them has no more of the heap in use than is allowed.
 fn is_low(saved: &[u16; 16384], t: usize, size: usize, used: usize) -> bool
-    ensures { λ r. ⌜ r ≡ (leb t size && leb (usedAt (now (saved .entry)) t) used) ⌝ }
+    ensures { λ r. ⌜ r ≡ isLow (now (saved .entry)) size used t ⌝ }
 {
     if t <= size {
-        return head::used_at(saved, t) <= used;
+        return head::used_at(saved, t) <= allowed(saved, t, used);
     }
     false
 }

@@ -11,7 +11,7 @@ use looking::look::Tested;
 use looking::look::look;
 use pairs::branch::branches_of;
 ghost use mathlib.Core.Path.{_≡_};
-ghost use Rattle.tracing.specs.Asking.{askLeft, askedAt, isEnd, isCall, branchesAsked};
+ghost use Rattle.tracing.specs.Asking.{askLeft, askedAt, isCall, branchesAsked};
 
 // End: an expression, whose value is the output. Call: a call. Same: an `eqa?` of these two items. Test: a `cons?` on this.
 pub enum Asked {
@@ -47,17 +47,6 @@ pub fn ask(
         return Asked::Test(t);
     }
     Asked::End
-}
-
-pub fn is_end(a: Asked) -> bool
-    ensures { λ r. ⌜ r ≡ isEnd a ⌝ }
-{
-    match a {
-        Asked::End => true,
-        Asked::Call => false,
-        Asked::Same { left: _, right: _ } => false,
-        Asked::Test(_) => false,
-    }
 }
 
 pub fn is_call(a: Asked) -> bool

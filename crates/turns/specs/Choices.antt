@@ -1,23 +1,22 @@
 -- The decisions of a turn by value: what each function of choice.rt answers.
 use Prim.Native.Nat.{ℕ}
 use mathlib.Core.Bool.{Bool, true, false, cond}
-use lib.Dec.{leb}
+use lib.Dec.{leb, eqb}
 use Rattle.heap.specs.declared.configuration.Branches.{Branches}
 use Rattle.saving.specs.declared.head.Node.{Node}
-use Rattle.tracing.specs.declared.ask.Asked.{Asked}
-use Rattle.replay.specs.Positions.{atDepth}
 use Rattle.replay.specs.declared.position.Bounds.{Bounds}
-use Rattle.turns.specs.States.{stateAt}
+use Rattle.turns.specs.declared.choice.Way.{Way}
+use Rattle.turns.specs.declared.choice.Way.the-variants.{Call, Choice, Leaf}
 use Rattle.turns.specs.declared.found.Found.{Found}
-use Rattle.turns.specs.declared.state.State.{State}
-use Rattle.turns.specs.declared.state.Plan.{Plan}
-use Rattle.turns.specs.declared.state.Plan.the-variants.{Take}
 
 abbrev pub isBoth : Branches → Bool
 isBoth b = cond (b .yes) (b .no) false
 
-abbrev pub isNone : Branches → Bool
-isNone b = cond (b .yes) false (cond (b .no) false true)
+abbrev pub firstBranch : Branches → Bool
+firstBranch b = b .yes
+
+abbrev pub isResult : ℕ → Bool
+isResult m = cond (eqb m 3) false (cond (eqb m 4) false (cond (eqb m 5) false true))
 
 abbrev pub isDeep : Bounds → Node → Bool
 isDeep b n = leb (b .steps) (n .steps)
@@ -25,5 +24,5 @@ isDeep b n = leb (b .steps) (n .steps)
 abbrev pub isSpent : ℕ → Found → Bool
 isSpent walk f = leb walk (f .count)
 
-abbrev pub firstTaken : State → ℕ → ℕ → Asked → Branches → Plan
-firstTaken s depth top a b = Take (stateAt (atDepth (s .at .node) depth top) (s .found)) a (b .yes)
+abbrev pub wayOn : ℕ → Bounds → Node → Way
+wayOn m b n = cond (isResult m) Leaf (cond (isDeep b n) Leaf (cond (eqb m 3) Call Choice))

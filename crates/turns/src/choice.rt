@@ -1,16 +1,21 @@
-// What a turn decides by value: which branches there are, which one is taken, whether a transition may still be made.
+// What a turn decides by value: which way on a node has, which branch is taken first, whether a transition may still be made.
 use crate::found::Found;
-use crate::state::Plan;
-use crate::state::State;
-use crate::state::state_at;
 use heap::configuration::Branches;
+use linking::code::CALL;
+use linking::code::SAME;
+use linking::code::TEST;
 use replay::position::Bounds;
-use replay::position::at_depth;
 use saving::head::Node;
-use tracing::ask::Asked;
 ghost use mathlib.Core.Path.{_≡_};
 ghost use mathlib.Core.Bool.{Bool};
-ghost use Rattle.turns.specs.Choices.{isBoth, isNone, isDeep, isSpent, firstTaken};
+ghost use Rattle.turns.specs.Choices.{isBoth, firstBranch, isResult, isDeep, isSpent, wayOn};
+
+// Call: a call. Choice: a condition. Leaf: none, as at an end and N deep.
+pub enum Way {
+    Call,
+    Choice,
+    Leaf,
+}
 
 pub fn is_both(b: Branches) -> bool
     ensures { λ r. ⌜ r ≡ isBoth b ⌝ }
@@ -21,13 +26,24 @@ pub fn is_both(b: Branches) -> bool
     false
 }
 
-pub fn is_none(b: Branches) -> bool
-    ensures { λ r. ⌜ r ≡ isNone b ⌝ }
+// "true branch first": whether it is the true one, where b are those there are.
+pub fn first_branch(b: Branches) -> bool
+    ensures { λ r. ⌜ r ≡ firstBranch b ⌝ }
 {
-    if b.yes {
+    b.yes
+}
+
+// Whether a term with this mark is an end: an expression.
+pub fn is_result(mark: u16) -> bool
+    ensures { λ r. ⌜ r ≡ isResult mark ⌝ }
+{
+    if mark == CALL {
         return false;
     }
-    if b.no { false } else { true }
+    if mark == SAME {
+        return false;
+    }
+    if mark == TEST { false } else { true }
 }
 
 // "goes N transitions deep"
@@ -44,16 +60,18 @@ pub fn is_spent(walk: usize, f: Found) -> bool
     walk <= f.count
 }
 
-// "true branch first": the branch of s that is taken first, where b are those there are, behind so many choices and with this top.
-pub fn take_first(s: State, depth: usize, top: usize, a: Asked, b: Branches) -> Plan
-    ensures { λ r. ⌜ r ≡ firstTaken s depth top a b ⌝ }
+// The way on from a node whose term has this mark.
+pub fn way_on(mark: u16, b: Bounds, n: Node) -> Way
+    ensures { λ r. ⌜ r ≡ wayOn mark b n ⌝ }
 {
-    let p = s.at;
-    let n = p.node;
-    let f = s.found;
-    Plan::Take {
-        from: state_at(at_depth(n, depth, top), f),
-        asked: a,
-        taken: b.yes,
+    if is_result(mark) {
+        return Way::Leaf;
     }
+    if is_deep(b, n) {
+        return Way::Leaf;
+    }
+    if mark == CALL {
+        return Way::Call;
+    }
+    Way::Choice
 }

@@ -4,11 +4,11 @@ use sets::cell;
 ghost use mathlib.Core.Path.{_≡_};
 ghost use Rattle.turns.specs.Finding.{walked, nothingFound, counted, cutOff, withLines};
 
-// The transitions made, whether a path was cut, the lines.
+// The transitions made, the lines, whether a path was cut.
 pub struct Found {
     pub count: usize,
-    pub cut: bool,
     pub lines: Lines,
+    pub cut: bool,
 }
 
 // Done: nothing is untaken. Over: 21. Full: 22. Spent: 23.

@@ -13,11 +13,12 @@ use Rattle.expressions.specs.Expression.{Exp, atm, evar, pair, nodes, nodesAll}
 use Rattle.expressions.specs.Substitution.{apply, applyAll}
 use Rattle.language.specs.Program.{Param}
 use Rattle.semantics.specs.Configuration.{substOfEnv}
-use Rattle.heap.specs.Entries.{entry, entryFrom, entryTo, pushed, PushAnswer, pushAnswer}
+use Rattle.heap.specs.Entries.{entry, entryKnown, entryFrom, entryTo, pushed, PushAnswer, pushAnswer}
 use Rattle.heap.specs.declared.entry.Pushed.the-variants.{Done as PushedDone}
 use Rattle.runs.proofs.RunLaws.{Below, below-self}
-use Rattle.heap.proofs.HeapLaws.{Holds, holds-below}
-use Rattle.heap.proofs.FrameLaws.{Held, held-front, entry-length, entry-before, entry-from, entry-to}
+use Rattle.heap.proofs.HeapLaws.{Holds, holds-below, nodes-positive}
+use Rattle.heap.proofs.KnownLaws.{KnownOf}
+use Rattle.heap.proofs.FrameLaws.{Held, held-front, entry-length, entry-before, entry-known, entry-from, entry-to}
 use Rattle.heap.proofs.FrameLaws as frame
 use Rattle.heap.proofs.NodeLaws.{holds-nodes}
 use Rattle.constants.proofs.ConstantLaws.{Constants, constants-below}
@@ -28,25 +29,13 @@ use Rattle.values.specs.Values.{ValueLeft, valueAt}
 use Rattle.values.specs.Arguments.{counted, takenAs, entered, ArgueLeft, argueLeft, argumentAt, argumentsAt}
 use Rattle.values.specs.declared.value.Valued.the-variants.{At, Over as ValuedOver}
 use Rattle.values.specs.declared.arguments.Argued.the-variants.{Done, Over}
-use Rattle.values.proofs.ValueLaws.{Typed, Known, ValuedAs}
+use Rattle.values.proofs.ValueLaws.{Typed, past-linked, Known, ValuedAs}
 use Rattle.values.proofs.RoomLaws.{value-outcome}
 use Rattle.values.proofs.RoomLaws as values
-
-nodes-positive : (t : Exp) → 1 ≤ nodes t
-nodes-positive (atm y) = omega arith
-nodes-positive (evar x) = omega arith
-nodes-positive (pair c d) = omega arith
 
 abbrev pub AllKnown : List Param → List Exp → Type 0
 AllKnown sc [] = Unit {0}
 AllKnown sc (c ∷ cs) = Known sc c × AllKnown sc cs
-
--- where the next token behind an expression stands
-pub past-linked : {code : List ℕ} {sc : List Param} {i j : ℕ} {c : Exp} → ExpLinked code sc i c j → linkAt code i .past ≡ j
-past-linked (symLinked e) = rw e
-past-linked (eLinked e) = rw e
-past-linked (aLinked e) = rw e
-past-linked (consLinked o w lc ld e) = rw o
 
 -- what is left behind the entries of trees
 pub record Entered (h f : List ℕ) (used entries sum : ℕ) (ts : List Exp) (w : ArgueLeft) : Type 0 where
@@ -66,11 +55,11 @@ below-then x y l = record { same = λ j m. x .same j (omega arith) ∙ y .same j
 
 module _ (code : List ℕ) (base : ℕ) where
   -- the entry of a value that there is room for
-  one-entered : (entries used sum i from to now : ℕ) (h f g : List ℕ) (t : Exp) → valueAt code f base used i h .answer ≡ At from to now → valueAt code f base used i h .heap ≡ g →
+  one-entered : (entries used sum i from to now kn : ℕ) (h f g : List ℕ) (t : Exp) → valueAt code f base used i h .answer ≡ At from to now kn → valueAt code f base used i h .heap ≡ g →
       to - from ≡ nodes t → sum + nodes t ≤ 4097 → entries < 4120 →
-      argumentAt code base entries used sum i h f ≡ argueLeft (Done (entries + 1) now (sum + nodes t)) g (entry entries 0 from to f)
+      argumentAt code base entries used sum i h f ≡ argueLeft (Done (entries + 1) now (sum + nodes t)) g (entry entries kn from to f)
   unfolding argumentAt pushed
-  one-entered entries used sum i from to now h f g t e p s l m =
+  one-entered entries used sum i from to now kn h f g t e p s l m =
       let c : min sum 4098 + min (nodes t) 4098 ≡ sum + nodes t = omega arith in
       rw (e, p, s, lt-leb 4120 entries m, c, le-ltb 4097 (sum + nodes t) l)
 
@@ -79,28 +68,31 @@ module _ (code : List ℕ) (base : ℕ) where
   over-entered entries used sum i h f e = rw e
 
   -- "over 4,096 nodes"
-  many-entered : (entries used sum i from to now : ℕ) (h f : List ℕ) (t : Exp) → valueAt code f base used i h .answer ≡ At from to now → to - from ≡ nodes t → 4097 < sum + nodes t → entries < 4120 →
+  many-entered : (entries used sum i from to now kn : ℕ) (h f : List ℕ) (t : Exp) → valueAt code f base used i h .answer ≡ At from to now kn → to - from ≡ nodes t → 4097 < sum + nodes t → entries < 4120 →
       argumentAt code base entries used sum i h f .answer ≡ Over
   unfolding argumentAt pushed
-  many-entered entries used sum i from to now h f t e s l m =
+  many-entered entries used sum i from to now kn h f t e s l m =
       let c : 4097 < min sum 4098 + min (nodes t) 4098 = omega arith in
       rw (e, s, lt-leb 4120 entries m, lt-ltb 4097 (min sum 4098 + min (nodes t) 4098) c)
 
   module _ (sc : List Param) (vs : List Exp) (typed : Typed sc vs) where
     -- the entry at hand, kept by what comes behind it
-    entry-holds : {now more from to : ℕ} {g g2 : List ℕ} {t : Exp} (entries : ℕ) (f f2 : List ℕ) → Holds g now from to t → to ≤ 65535 → 3 * (entries + 1) ≤ length f →
-        Below now g2 g → now ≤ more → Below (3 * (entries + 1)) f2 (entry entries 0 from to f) → Holds g2 more (entryFrom f2 entries) (entryTo f2 entries) t
-    entry-holds {from = from} {to = to} {t = t} entries f f2 x l r b n s =
+    entry-holds : {now more from to : ℕ} {g g2 : List ℕ} {t : Exp} (entries kn : ℕ) (f f2 : List ℕ) → Holds g now from to t → to ≤ 65535 → 3 * (entries + 1) ≤ length f →
+        Below now g2 g → now ≤ more → Below (3 * (entries + 1)) f2 (entry entries kn from to f) → Holds g2 more (entryFrom f2 entries) (entryTo f2 entries) t
+    entry-holds {from = from} {to = to} {t = t} entries kn f f2 x l r b n s =
         let z = holds-nodes x in
         let q = nodes-positive t in
         let a : min from 65535 ≡ from = omega arith in
         let c : min to 65535 ≡ to = omega arith in
-        rw (s .same (3 * entries + 1) (omega arith), s .same (3 * entries + 2) (omega arith), entry-from entries 0 from to f r, entry-to entries 0 from to f r, a, c) (holds-below x b n)
+        rw (s .same (3 * entries + 1) (omega arith), s .same (3 * entries + 2) (omega arith), entry-from entries kn from to f r, entry-to entries kn from to f r, a, c) (holds-below x b n)
+
+    entry-knows : {t : Exp} (entries kn from to : ℕ) (f f2 : List ℕ) → KnownOf kn t → 3 * (entries + 1) ≤ length f → Below (3 * (entries + 1)) f2 (entry entries kn from to f) → KnownOf (entryKnown f2 entries) t
+    entry-knows entries kn from to f f2 x r s = rw (s .same (3 * entries) (omega arith), entry-known entries kn from to f r) x
 
     -- an argument and then the others
-    module _ (h f : List ℕ) (used entries sum : ℕ) (t : Exp) (ts : List Exp) (from to now : ℕ) (g : List ℕ) (at : Holds g now from to t) (same : Below used g h) (grown : used ≤ now)
+    module _ (h f : List ℕ) (used entries sum : ℕ) (t : Exp) (ts : List Exp) (from to now kn : ℕ) (g : List ℕ) (at : Holds g now from to t) (knows : KnownOf kn t) (same : Below used g h) (grown : used ≤ now)
         (most : now ≤ used + nodes t) (fits : now ≤ 65535) (in-frame : 3 * (entries + 1) ≤ length f) where
-      joined : (w : ArgueLeft) → Entered g (entry entries 0 from to f) now (entries + 1) (sum + nodes t) ts w → Entered h f used entries sum (t ∷ ts) w
+      joined : (w : ArgueLeft) → Entered g (entry entries kn from to f) now (entries + 1) (sum + nodes t) ts w → Entered h f used entries sum (t ∷ ts) w
       joined w r = record {
         now = r .now;
         done = r .done ∙ ap₂ (λ (x y : ℕ). Done x (r .now) y) (omega arith) (omega arith);
@@ -109,9 +101,9 @@ module _ (code : List ℕ) (base : ℕ) where
         fits = r .fits;
         same = below-then (r .same) same grown;
         size = r .size;
-        before = below-then (r .before) (entry-before entries 0 from to f) (omega arith);
-        room = r .room ∙ entry-length entries 0 from to f;
-        holds = frame.Held.more (entry-holds entries f (w .frame) at (omega (arith, at .below)) in-frame (r .same) (r .grown) (r .before)) (r .holds);
+        before = below-then (r .before) (entry-before entries kn from to f) (omega arith);
+        room = r .room ∙ entry-length entries kn from to f;
+        holds = frame.Held.more (entry-holds entries kn f (w .frame) at (omega (arith, at .below)) in-frame (r .same) (r .grown) (r .before)) (entry-knows entries kn from to f (w .frame) knows in-frame (r .before)) (r .holds);
       }
 
     -- no room, or more than 4,096 nodes; else an entry for each
@@ -137,23 +129,23 @@ module _ (code : List ℕ) (base : ℕ) where
       unfolding argumentsAt
       on e k m g f1 p = rw (p, past)
 
-      then-others : (v : ValuedAs code f base h used sc vs typed held few t value) → sum + nodes t ≤ 4097 → let f1 = entry entries 0 (v .from) (v .to) f in
+      then-others : (v : ValuedAs code f base h used sc vs typed held few t value) → sum + nodes t ≤ 4097 → let f1 = entry entries (v .known) (v .from) (v .to) f in
           (w : ArgueLeft) → Outcome (value .heap) f1 (v .now) (entries + 1) (sum + nodes t) ts w → Outcome h f used entries sum (t ∷ ts) w
       then-others v l w (inl (e, inl r)) = inl (e, inl (omega (arith, v .most)))
       then-others v l w (inl (e, inr r)) = inl (e, inr (omega arith))
       then-others v l w (inr (x, r)) =
-          inr (joined h f used entries sum t ts (v .from) (v .to) (v .now) (value .heap) (v .holds) (v .same) (v .grown) (v .most) (v .fits) (omega (arith, lf)) w x, omega arith)
+          inr (joined h f used entries sum t ts (v .from) (v .to) (v .now) (v .known) (value .heap) (v .holds) (v .knows) (v .same) (v .grown) (v .most) (v .fits) (omega (arith, lf)) w x, omega arith)
 
       few-nodes : (v : ValuedAs code f base h used sc vs typed held few t value) → Dec (sum + nodes t ≤ 4097) → Outcome h f used entries sum (t ∷ ts) all
       few-nodes v (yes l) =
-          let f1 = entry entries 0 (v .from) (v .to) f in
-          let eb = entry-before entries 0 (v .from) (v .to) f in
+          let f1 = entry entries (v .known) (v .from) (v .to) f in
+          let eb = entry-before entries (v .known) (v .from) (v .to) f in
           let held1 : Held (value .heap) (v .now) f1 base vs = held-front held (v .same) (v .grown) (record { same = λ k m. eb .same k (omega arith) }) in
-          let o = one-entered entries used sum i (v .from) (v .to) (v .now) h f (value .heap) t (v .done) refl (holds-nodes (v .holds)) l room in
+          let o = one-entered entries used sum i (v .from) (v .to) (v .now) (v .known) h f (value .heap) t (v .done) refl (holds-nodes (v .holds)) l room in
           rw (on (entries + 1) (v .now) (sum + nodes t) (value .heap) f1 o)
           (then-others v l (argumentsAt code base n (entries + 1) (v .now) (sum + nodes t) j (value .heap) f1)
-          (again (value .heap) f1 (v .now) (sum + nodes t) (v .same) (v .grown) held1 (entry-length entries 0 (v .from) (v .to) f ∙ lf) (v .size) (v .fits) l))
-      few-nodes v (no l) = inl (over-first (many-entered entries used sum i (v .from) (v .to) (v .now) h f t (v .done) (holds-nodes (v .holds)) (omega arith) room), inr (omega arith))
+          (again (value .heap) f1 (v .now) (sum + nodes t) (v .same) (v .grown) held1 (entry-length entries (v .known) (v .from) (v .to) f ∙ lf) (v .size) (v .fits) l))
+      few-nodes v (no l) = inl (over-first (many-entered entries used sum i (v .from) (v .to) (v .now) (v .known) h f t (v .done) (holds-nodes (v .holds)) (omega arith) room), inr (omega arith))
 
       more-outcome : values.Outcome code f base h used sc vs typed held few i t → Outcome h f used entries sum (t ∷ ts) all
       more-outcome (inl (e, r)) = inl (over-first (over-entered entries used sum i h f e), inl (omega arith))

@@ -8,35 +8,45 @@ use lib.Dec.{ltb, leb}
 use lib.ListN.{length, set, length-set, length-append}
 use borrow.Author.Tests.{lt-ltb, le-ltb, lt-leb, ltb-true, ltb-false}
 use Rattle.expressions.specs.Expression.{Exp}
-use Rattle.heap.specs.Entries.{entry, entryFrom, entryTo, pushed, PushAnswer, pushAnswer}
+use Rattle.heap.specs.Entries.{entry, entryKnown, entryFrom, entryTo, pushed, PushAnswer, pushAnswer}
 use Rattle.heap.specs.declared.entry.Pushed.the-variants.{Done}
 use Rattle.runs.proofs.RunLaws.{Below}
 use Rattle.heap.proofs.HeapLaws.{Holds}
-use Rattle.heap.proofs.FrameLaws.{Held, entry-length, entry-before, entry-behind, entry-from, entry-to}
+use Rattle.heap.proofs.KnownLaws.{KnownOf, unknown}
+use Rattle.heap.proofs.FrameLaws.{Held, entry-length, entry-before, entry-behind, entry-known, entry-from, entry-to}
 use Rattle.heap.proofs.FrameLaws as frame
 use Rattle.linking.specs.Places.{withValue}
 use Rattle.values.specs.Binding.{boundAt}
 
-module _ {h : List ℕ} {used : ℕ} (f g : List ℕ) (at from to : ℕ) (v : Exp) (is : Holds h used from to v) (start : entryFrom g at ≡ from) (end : entryTo g at ≡ to)
-    (before : (j : ℕ) → j < at → (entryFrom g j ≡ entryFrom f j) × (entryTo g j ≡ entryTo f j)) (behind : (j : ℕ) → at < j → (entryFrom g j ≡ entryFrom f j) × (entryTo g j ≡ entryTo f j)) where
+abbrev SameEntry : List ℕ → List ℕ → ℕ → Type 0
+SameEntry g f j = (entryFrom g j ≡ entryFrom f j) × (entryTo g j ≡ entryTo f j) × (entryKnown g j ≡ entryKnown f j)
+
+module _ {h : List ℕ} {used : ℕ} (f g : List ℕ) (at from to : ℕ) (v : Exp) (is : Holds h used from to v) (start : entryFrom g at ≡ from) (end : entryTo g at ≡ to) (nothing : entryKnown g at ≡ 0)
+    (before : (j : ℕ) → j < at → SameEntry g f j) (behind : (j : ℕ) → at < j → SameEntry g f j) where
   here : (i : ℕ) → i ≡ at → Holds h used (entryFrom g i) (entryTo g i) v
   here i e = rw (e, start, end) is
 
-  other : {t : Exp} (i : ℕ) → (entryFrom g i ≡ entryFrom f i) × (entryTo g i ≡ entryTo f i) → Holds h used (entryFrom f i) (entryTo f i) t → Holds h used (entryFrom g i) (entryTo g i) t
+  here-known : (i : ℕ) → i ≡ at → KnownOf (entryKnown g i) v
+  here-known i e = rw (e, nothing) unknown
+
+  other-known : {t : Exp} (i : ℕ) → SameEntry g f i → KnownOf (entryKnown f i) t → KnownOf (entryKnown g i) t
+  other-known i e x = rw (e .2) x
+
+  other : {t : Exp} (i : ℕ) → SameEntry g f i → Holds h used (entryFrom f i) (entryTo f i) t → Holds h used (entryFrom g i) (entryTo g i) t
   other i e x = rw (e .0, e .1) x
 
   held-behind : {i : ℕ} {vs : List Exp} → at < i → Held h used f i vs → Held h used g i vs
   held-behind l frame.Held.none = frame.Held.none
-  held-behind {i} l (frame.Held.more x r) = frame.Held.more (other i (behind i l) x) (held-behind (omega arith) r)
+  held-behind {i} l (frame.Held.more x k r) = frame.Held.more (other i (behind i l) x) (other-known i (behind i l) k) (held-behind (omega arith) r)
 
   held-set : {i : ℕ} {vs : List Exp} (p : ℕ) → i + p ≡ at → p < length vs → Held h used f i vs → Held h used g i (set vs p v)
   held-set p e l frame.Held.none = let z : ⊥ = omega arith in absurd z
-  held-set {i} zero e l (frame.Held.more x r) = frame.Held.more (here i (omega arith)) (held-behind (omega arith) r)
-  held-set {i} (suc p) e l (frame.Held.more x r) = frame.Held.more (other i (before i (omega arith)) x) (held-set p (omega arith) (omega arith) r)
+  held-set {i} zero e l (frame.Held.more x k r) = frame.Held.more (here i (omega arith)) (here-known i (omega arith)) (held-behind (omega arith) r)
+  held-set {i} (suc p) e l (frame.Held.more x k r) = frame.Held.more (other i (before i (omega arith)) x) (other-known i (before i (omega arith)) k) (held-set p (omega arith) (omega arith) r)
 
   held-push : {i : ℕ} {vs : List Exp} → i + length vs ≡ at → Held h used f i vs → Held h used g i (vs ++ (v ∷ []))
-  held-push {i} e frame.Held.none = frame.Held.more (here i (omega arith)) frame.Held.none
-  held-push {i} e (frame.Held.more x r) = frame.Held.more (other i (before i (omega arith)) x) (held-push (omega arith) r)
+  held-push {i} e frame.Held.none = frame.Held.more (here i (omega arith)) (here-known i (omega arith)) frame.Held.none
+  held-push {i} e (frame.Held.more x k r) = frame.Held.more (other i (before i (omega arith)) x) (other-known i (before i (omega arith)) k) (held-push (omega arith) r)
 
 -- the name's value among those there were
 pub record Bound (h f : List ℕ) (used base : ℕ) (ws : List Exp) (w : PushAnswer) : Type 0 where
@@ -56,17 +66,20 @@ module _ (h f : List ℕ) (used base from to : ℕ) (vs : List Exp) (v : Exp) (h
     high : min to 65535 ≡ to
     high = omega arith
 
-    is-before : (j : ℕ) → j < base + p → (entryFrom g j ≡ entryFrom f j) × (entryTo g j ≡ entryTo f j)
-    is-before j l = let b = entry-before (base + p) 0 from to f in (b .same (3 * j + 1) (omega arith), b .same (3 * j + 2) (omega arith))
+    is-before : (j : ℕ) → j < base + p → SameEntry g f j
+    is-before j l = let b = entry-before (base + p) 0 from to f in (b .same (3 * j + 1) (omega arith), b .same (3 * j + 2) (omega arith), b .same (3 * j) (omega arith))
 
-    is-behind : (j : ℕ) → base + p < j → (entryFrom g j ≡ entryFrom f j) × (entryTo g j ≡ entryTo f j)
-    is-behind j l = let b = entry-behind (base + p) 0 from to f in (b .same (3 * j + 1) (omega arith), b .same (3 * j + 2) (omega arith))
+    is-behind : (j : ℕ) → base + p < j → SameEntry g f j
+    is-behind j l = let b = entry-behind (base + p) 0 from to f in (b .same (3 * j + 1) (omega arith), b .same (3 * j + 2) (omega arith), b .same (3 * j) (omega arith))
 
     start : entryFrom g (base + p) ≡ from
     start = entry-from (base + p) 0 from to f (omega arith) ∙ low
 
     end : entryTo g (base + p) ≡ to
     end = entry-to (base + p) 0 from to f (omega arith) ∙ high
+
+    nothing : entryKnown g (base + p) ≡ 0
+    nothing = entry-known (base + p) 0 from to f (omega arith)
 
     kept : Below (3 * base) g f
     kept = record { same = λ j l. entry-before (base + p) 0 from to f .same j (omega arith) }
@@ -87,7 +100,7 @@ module _ (h f : List ℕ) (used base from to : ℕ) (vs : List Exp) (v : Exp) (h
             done = refl;
             before = kept p (omega arith);
             room = entry-length (base + p) 0 from to f;
-            holds = held-set f (g p (omega arith)) (base + p) from to v is (start p (omega arith)) (end p (omega arith)) (is-before p (omega arith)) (is-behind p (omega arith)) p refl k held;
+            holds = held-set f (g p (omega arith)) (base + p) from to v is (start p (omega arith)) (end p (omega arith)) (nothing p (omega arith)) (is-before p (omega arith)) (is-behind p (omega arith)) p refl k held;
           })
         where
           last : p < length vs → length (set vs p v) ≡ length vs → cond (ltb (base + p + 1) (base + length vs)) (Done (base + length vs)) (Done (base + p + 1)) ≡ Done (base + length (set vs p v))
@@ -104,5 +117,5 @@ module _ (h f : List ℕ) (used base from to : ℕ) (vs : List Exp) (v : Exp) (h
             done = refl;
             before = kept p (omega arith);
             room = entry-length (base + p) 0 from to f;
-            holds = held-push f (g p (omega arith)) (base + p) from to v is (start p (omega arith)) (end p (omega arith)) (is-before p (omega arith)) (is-behind p (omega arith)) (omega arith) held;
+            holds = held-push f (g p (omega arith)) (base + p) from to v is (start p (omega arith)) (end p (omega arith)) (nothing p (omega arith)) (is-before p (omega arith)) (is-behind p (omega arith)) (omega arith) held;
           })

@@ -31,7 +31,7 @@ use Rattle.linking.specs.Linked.{placeIn, ExpLinked, symLinked, eLinked, aLinke
 use Rattle.linking.specs.Places.{envOf}
 use Rattle.linking.proofs.AgreeLaws.{exp-goes-on}
 use Rattle.linking.proofs.PlaceLaws.{lookup-e, lookup-a}
-use Rattle.values.specs.Values.{entryAt, placeAt, onwardFill, tokenWritten, tokensWritten, valueAt}
+use Rattle.values.specs.Values.{entryAt, placeAt, onwardFill, tokenWritten, tokensWritten, madeOf, valueAt}
 use Rattle.values.specs.declared.value.Valued.the-variants.{Over}
 use Rattle.values.proofs.ValueLaws.{held-at, Typed, typed-length, atom-typed, Known, two-parts, then, nothing-token, cell-token, tokens-mean, ValuedAs, valued-name, valued-constant, value-means}
 
@@ -138,7 +138,7 @@ module _ (code f : List ℕ) (base : ℕ) where
         (λ l. tokens-mean code f base h used sc vs typed held few lc (kn .0) (k + 1) g1 (omega arith) b1 z1 l) (λ l. tokens-none ld (kn .1) (k + 1 + nodes tc) g2 (omega arith) b2 z2 l) o
 
     valued-none : (i j m a : ℕ) → linkAt code i ≡ link m a 0 j → eqb m 2 ≡ false → ltb (constantAt code i .from) (constantAt code i .to) ≡ false → None i j used h → valueAt code f base used i h .answer ≡ Over
-    unfolding valueAt
+    unfolding valueAt madeOf
     valued-none i j m a e n o w = rw (e, n, o, w)
 
     -- no room for the value, or the value

@@ -26,6 +26,7 @@ use Rattle.heap.specs.Moving.{Left}
 use Rattle.heap.specs.declared.configuration.Configuration.{Configuration as InCells}
 use Rattle.heap.specs.declared.configuration.Moved.the-variants.{On, Over}
 use Rattle.runs.proofs.RunLaws.{Below}
+use Rattle.heap.proofs.HeapLaws.{nodes-positive}
 use Rattle.heap.proofs.FrameLaws.{Held}
 use Rattle.heap.proofs.PartLaws.{nodes-joined}
 use Rattle.linking.specs.Linked.{placeIn, TermLinked}
@@ -70,11 +71,6 @@ pair-nodes {names} {vs} P t e =
     let a : nodesValues (P .con .env .evars) + length (P .con .env .avars) ≡ nodesAll vs = rw e (env-nodes t) in
     let b = nodes-joined (P .con .io .ins) (P .con .io .out ∷ vs) in
     omega arith
-
-pub nodes-positive : (t : Exp) → 1 ≤ nodes t
-nodes-positive (atm y) = omega arith
-nodes-positive (evar x) = omega arith
-nodes-positive (pair c d) = omega arith
 
 -- each tree has a node
 pub nodes-length : (ts : List Exp) → length ts ≤ nodesAll ts

@@ -5,10 +5,10 @@ use mathlib.Core.Bool.{Bool, true, false, cond}
 use mathlib.Core.List.{List, [], _∷_, _++_, append-assoc}
 use native.Mathlib.Omega.{arith}
 use native.Mathlib.Numerals.{add-one}
-use lib.Dec.{eqb, ltb}
+use lib.Dec.{eqb, ltb, leb}
 use lib.ListN.{length, getD, set}
 use lib.Seq.{sets, length-sets}
-use borrow.Author.Tests.{lt-ltb, ltb-true}
+use borrow.Author.Tests.{lt-ltb, le-ltb, le-leb, lt-leb, ltb-true}
 use Rattle.expressions.specs.Expression.{AtomicExp, sym, avar, Exp, atm, evar, pair, nodes}
 use Rattle.expressions.specs.Substitution.{Substitution, apply, applyAtomic}
 use Rattle.language.specs.Program.{Param, pe, pa, atomOf}
@@ -19,9 +19,10 @@ use Rattle.sets.specs.declared.fill.Filled.{Filled}
 use Rattle.sets.specs.declared.fill.Filled.the-variants.{Done, Over as FilledOver}
 use Rattle.sets.proofs.CellLaws.{cells-nodes}
 use Rattle.runs.specs.Runs.{cellsAt, run, written, appended}
-use Rattle.heap.specs.Entries.{entryFrom, entryTo}
+use Rattle.heap.specs.Entries.{entryKnown, entryFrom, entryTo}
 use Rattle.runs.proofs.RunLaws.{Below, below-self, below-sets, run-below, length-cellsAt, written-done, sets-append}
 use Rattle.heap.proofs.HeapLaws.{Holds, holds-below, sets-cells}
+use Rattle.heap.proofs.KnownLaws.{KnownOf, unknown, known-head}
 use Rattle.heap.proofs.FrameLaws.{Held}
 use Rattle.heap.proofs.FrameLaws as frame
 use Rattle.linking.specs.Code.{link, linkAt}
@@ -33,14 +34,20 @@ use Rattle.linking.specs.Linked.{placeIn, ExpLinked, symLinked, eLinked, aLinke
 use Rattle.linking.specs.Places.{envOf}
 use Rattle.linking.proofs.AgreeLaws.{exp-goes-on}
 use Rattle.linking.proofs.PlaceLaws.{lookup-e, lookup-a}
-use Rattle.values.specs.Values.{entryAt, placeAt, onwardFill, tokenWritten, tokensWritten, ValueLeft, valueAt}
-use Rattle.values.specs.declared.value.Valued.the-variants.{At}
+use Rattle.values.specs.Values.{entryAt, placeAt, onwardFill, tokenWritten, tokensWritten, ValueLeft, valueLeft, madeAt, headEndAt, knownPair, madeOf, valueAt}
+use Rattle.values.specs.declared.value.Valued.{Valued}
+use Rattle.values.specs.declared.value.Valued.the-variants.{At, Over}
 
 -- an entry among those that hold
 pub held-at : {h : List ℕ} {used : ℕ} {f : List ℕ} {i : ℕ} {ts : List Exp} (d : Exp) (m : ℕ) → Held h used f i ts → m < length ts → Holds h used (entryFrom f (i + m)) (entryTo f (i + m)) (getD ts m d)
 held-at d m frame.Held.none l = let z : ⊥ = omega arith in absurd z
-held-at {f = f} {i = i} d zero (frame.Held.more x r) l = let z : i + 0 ≡ i = omega arith in rw z x
-held-at {f = f} {i = i} d (suc m) (frame.Held.more x r) l = let z : i + suc m ≡ i + 1 + m = omega arith in rw z (held-at d m r (omega arith))
+held-at {f = f} {i = i} d zero (frame.Held.more x k r) l = let z : i + 0 ≡ i = omega arith in rw z x
+held-at {f = f} {i = i} d (suc m) (frame.Held.more x k r) l = let z : i + suc m ≡ i + 1 + m = omega arith in rw z (held-at d m r (omega arith))
+
+pub known-at : {h : List ℕ} {used : ℕ} {f : List ℕ} {i : ℕ} {ts : List Exp} (d : Exp) (m : ℕ) → Held h used f i ts → m < length ts → KnownOf (entryKnown f (i + m)) (getD ts m d)
+known-at d m frame.Held.none l = let z : ⊥ = omega arith in absurd z
+known-at {f = f} {i = i} d zero (frame.Held.more x k r) l = let z : i + 0 ≡ i = omega arith in rw z k
+known-at {f = f} {i = i} d (suc m) (frame.Held.more x k r) l = let z : i + suc m ≡ i + 1 + m = omega arith in rw z (known-at d m r (omega arith))
 
 -- "`a.x` ... an atom": the values of `a.` names are atomic
 pub data Typed : List Param → List Exp → Type 0 where
@@ -52,6 +59,13 @@ pub typed-length : {sc : List Param} {vs : List Exp} → Typed sc vs → length 
 typed-length noneTyped = refl
 typed-length (eTyped t) = ap suc (typed-length t)
 typed-length (aTyped t) = ap suc (typed-length t)
+
+-- where the next token behind an expression stands
+pub past-linked : {code : List ℕ} {sc : List Param} {i j : ℕ} {c : Exp} → ExpLinked code sc i c j → linkAt code i .past ≡ j
+past-linked (symLinked e) = rw e
+past-linked (eLinked e) = rw e
+past-linked (aLinked e) = rw e
+past-linked (consLinked o w lc ld e) = rw o
 
 -- the names of an expression are in reach
 abbrev pub Known : List Param → Exp → Type 0
@@ -87,6 +101,35 @@ module _ (code f : List ℕ) (base : ℕ) where
           (let w = onwardFill (λ m u. wrote a (i + 1) m u) r g in onwardFill (λ m u. wrote b (i + suc a) m u) (w .answer) (w .cells))
       go (Done m) g again = let y : i + 1 + a ≡ i + suc a = omega arith in again m g ∙ rw y
       go FilledOver g again = refl
+
+  -- what is no `cons`
+  pub small-made : (used i past : ℕ) (h : List ℕ) → past - i ≤ 2 → (r : Filled) (g : List ℕ) → fillAnswer r g ≡ wrote (past - i) i used h → (v : Valued) → v ≡ madeAt used 0 r → valueLeft v g ≡ madeOf code f base used i past h
+  unfolding madeOf
+  small-made used i past h l r g e v done = rw (le-leb (past - i) 2 l, ← e) (ap (λ (x : Valued). valueLeft x g) done)
+
+  -- a `cons` by its head and what follows
+  module _ (used i past j : ℕ) (h : List ℕ) (is : j ≡ headEndAt code i past) (low : i ≤ j) (high : j ≤ past) (cons : 2 < past - i) (r : Filled) (g : List ℕ) (head : fillAnswer r g ≡ wrote (j - i) i used h) where
+    whole-is : wrote (past - i) i used h ≡ onwardFill (λ m u. wrote (past - j) j m u) r g
+    whole-is =
+        let n : past - i ≡ (j - i) + (past - j) = omega arith in
+        let y : i + (j - i) ≡ j = omega arith in
+        ap (λ (a : ℕ). wrote a i used h) n ∙ two-parts (j - i) (past - j) i used h ∙ ap (λ (a : ℕ). onwardFill (λ m u. wrote (past - j) a m u) (wrote (j - i) i used h .answer) (wrote (j - i) i used h .cells)) y ∙
+        ap (λ (w : FillAnswer). onwardFill (λ m u. wrote (past - j) j m u) (w .answer) (w .cells)) (inv head)
+
+    head-is : wrote (headEndAt code i past - i) i used h .answer ≡ r
+    head-is = ap (λ (a : ℕ). wrote (a - i) i used h .answer) (inv is) ∙ ap (λ (w : FillAnswer). w .answer) (inv head)
+
+    pub pair-made : (k : ℕ) → r ≡ Done k → (q : Filled) (u : List ℕ) → fillAnswer q u ≡ wrote (past - j) j k g → (kn : ℕ) → kn ≡ knownPair (k - used) → (v : Valued) → v ≡ madeAt used kn q → valueLeft v u ≡ madeOf code f base used i past h
+    unfolding madeOf
+    pair-made k e q u tail kn known v done =
+        let a : wrote (past - i) i used h ≡ fillAnswer q u = whole-is ∙ ap (λ (x : Filled). onwardFill (λ m u. wrote (past - j) j m u) x g) e ∙ inv tail in
+        rw (lt-leb (past - i) 2 cons, a, head-is, e, ← known) (ap (λ (x : Valued). valueLeft x u) done)
+
+    pub pair-over : r ≡ FilledOver → valueLeft Over g ≡ madeOf code f base used i past h
+    unfolding madeOf
+    pair-over e =
+        let a : wrote (past - i) i used h ≡ fillAnswer FilledOver g = whole-is ∙ ap (λ (x : Filled). onwardFill (λ m u. wrote (past - j) j m u) x g) e in
+        rw (lt-leb (past - i) 2 cons, a)
 
   -- a single token
   pub one-token : (i k : ℕ) (h : List ℕ) (m : ℕ) (g : List ℕ) → tokenWritten code f base i k h ≡ fillAnswer (Done m) g → wrote 1 i k h ≡ fillAnswer (Done m) g
@@ -185,8 +228,10 @@ module _ (code f : List ℕ) (base : ℕ) where
       pub from : ℕ
       pub to : ℕ
       pub now : ℕ
-      pub done : w .answer ≡ At from to now
+      pub known : ℕ
+      pub done : w .answer ≡ At from to now known
       pub holds : Holds (w .heap) now from to t
+      pub knows : KnownOf known t
       pub same : Below used (w .heap) h
       pub grown : used ≤ now
       pub most : now ≤ used + nodes t
@@ -202,8 +247,10 @@ module _ (code f : List ℕ) (base : ℕ) where
           from = entryFrom f (base + q);
           to = entryTo f (base + q);
           now = used;
+          known = entryKnown f (base + q);
           done = refl;
           holds = rw same (held-at (atm (sym 0)) q held l);
+          knows = rw same (known-at (atm (sym 0)) q held l);
           same = below-self;
           grown = omega arith;
           most = omega arith;
@@ -212,22 +259,57 @@ module _ (code f : List ℕ) (base : ℕ) where
         })
 
     -- else what was written behind what was used
-    valued-cells : (i j : ℕ) (m a : ℕ) (t : Exp) → length h ≡ 65535 → linkAt code i ≡ link m a 0 j → eqb m 2 ≡ false → ltb (constantAt code i .from) (constantAt code i .to) ≡ false → used + nodes t ≤ 65535 → Written i j t used h → ValuedAs t (valueAt code f base used i h)
+    valued-cells : (i j : ℕ) (m a k : ℕ) (t : Exp) → length h ≡ 65535 → linkAt code i ≡ link m a 0 j → eqb m 2 ≡ false → ltb (constantAt code i .from) (constantAt code i .to) ≡ false → used + nodes t ≤ 65535 →
+        madeOf code f base used i j h ≡ valueLeft (At used (used + nodes t) (used + nodes t) k) (sets h used (cells t)) → KnownOf k t → ValuedAs t (valueAt code f base used i h)
     unfolding valueAt
-    valued-cells i j m a t z e n o l w =
+    valued-cells i j m a k t z e n o l w kn =
         let d : used + nodes t - used ≡ length (cells t) = omega (arith, cells-nodes t) in
         rw (e, n, o, w) (record {
           from = used;
           to = used + nodes t;
           now = used + nodes t;
+          known = k;
           done = refl;
           holds = record { below = omega arith; is = ap (λ (u : ℕ). cellsAt u used (sets h used (cells t))) d ∙ sets-cells (cells t) h used (omega (arith, cells-nodes t)) };
+          knows = kn;
           same = below-sets used (cells t) below-self (omega arith);
           grown = omega arith;
           most = omega arith;
           fits = l;
           size = length-sets h used (cells t) ∙ z;
         })
+
+    -- a symbol, and a pair by what is written when its head is
+    made-small : (i j : ℕ) (t : Exp) → j - i ≤ 2 → Written i j t used h → madeOf code f base used i j h ≡ valueLeft (At used (used + nodes t) (used + nodes t) 0) (sets h used (cells t))
+    unfolding madeOf
+    made-small i j t l w = rw (le-leb (j - i) 2 l, w)
+
+    made-large : (i j n : ℕ) (t : Exp) → 2 < j - i → wrote (headEndAt code i j - i) i used h .answer ≡ Done (used + n) → Written i j t used h →
+        madeOf code f base used i j h ≡ valueLeft (At used (used + nodes t) (used + nodes t) (knownPair n)) (sets h used (cells t))
+    unfolding madeOf
+    made-large i j n t l e w = let z : used + n - used ≡ n = omega arith in rw (lt-leb (j - i) 2 l, w, e, z)
+
+    -- the head of a pair, behind the pair's own cell
+    head-written : (i j kk : ℕ) {c d : Exp} → linkAt code i ≡ link 0 0 0 (kk + 1) → linkAt code (i + 1) ≡ link 1 4 0 (i + 2) → ExpLinked code sc (i + 2) c j → ExpLinked code sc j d kk → Known sc c → length h ≡ 65535 →
+        used + 1 + nodes (apply σ c) ≤ 65535 → wrote (headEndAt code i (kk + 1) - i) i used h .answer ≡ Done (used + (1 + nodes (apply σ c)))
+    head-written i j kk {c} {d} o w lc ld kn z m =
+        let x1 = exp-goes-on code sc lc in let x2 = exp-goes-on code sc ld in
+        let tc = apply σ c in
+        let g1 = sets h used (4 ∷ []) in
+        let e0 : headEndAt code i (kk + 1) ≡ j = rw (past-linked lc, le-ltb j i (omega arith)) (omega arith) in
+        let n0 : headEndAt code i (kk + 1) - i ≡ 1 + (1 + (j - (i + 2))) = omega (arith, e0) in
+        let i1 : i + 1 + 1 ≡ i + 2 = omega arith in
+        let rc = tokens-mean lc kn (used + 1) g1 (omega arith) (below-sets used (4 ∷ []) below-self (omega arith)) (length-sets h used (4 ∷ []) ∙ z) (omega arith) in
+        let s1 = then 1 (1 + (j - (i + 2))) i used h used h (nothing-token i used h (kk + 1) o) in
+        let s2 = then 1 (j - (i + 2)) (i + 1) used h (used + 1) g1 (cell-token (i + 1) used h 4 (i + 2) w (omega arith)) in
+        ap (λ (v : FillAnswer). v .answer) (ap (λ (n : ℕ). wrote n i used h) n0 ∙ s1 ∙ s2 ∙ ap (λ (a : ℕ). wrote (j - (i + 2)) a (used + 1) g1) i1 ∙ rc) ∙ ap Done (omega arith)
+
+    known-pair : (c d : Exp) → KnownOf (knownPair (1 + nodes c)) (pair c d)
+    known-pair c d = pick (ltb (1 + nodes c) 32768)
+      where
+        pick : (b : Bool) → KnownOf (cond b (2 * (1 + nodes c - 1)) 0) (pair c d)
+        pick true = let z : 1 + nodes c - 1 ≡ nodes c = omega arith in rw z (known-head (nodes c) refl)
+        pick false = unknown
 
     -- a constant has the range that the table says
     pub valued-constant : {i : ℕ} {c : Exp} {j : ℕ} (m a : ℕ) → linkAt code i ≡ link m a 0 j → eqb m 2 ≡ false → ExpLinked code sc i c j → length h ≡ 65535 → used ≤ 65535 → Constants code h used →
@@ -241,8 +323,10 @@ module _ (code f : List ℕ) (base : ℕ) where
           from = constantAt code i .from;
           to = constantAt code i .to;
           now = used;
+          known = 0;
           done = refl;
           holds = record { below = x .below; is = y };
+          knows = unknown;
           same = below-self;
           grown = omega arith;
           most = omega arith;
@@ -251,9 +335,14 @@ module _ (code f : List ℕ) (base : ℕ) where
         })
 
     pub value-means : {i : ℕ} {c : Exp} {j : ℕ} → ExpLinked code sc i c j → Known sc c → length h ≡ 65535 → used + nodes (apply σ c) ≤ 65535 → ltb (constantAt code i .from) (constantAt code i .to) ≡ false → ValuedAs (apply σ c) (valueAt code f base used i h)
-    value-means {i} (symLinked {z = s} e) kn z m o = valued-cells i (i + 1) 1 (4 * s + 1) _ z e refl o m (tokens-mean (symLinked e) kn used h (omega arith) below-self z m)
+    value-means {i} (symLinked {z = s} e) kn z m o =
+        valued-cells i (i + 1) 1 (4 * s + 1) 0 (atm (sym s)) z e refl o m (made-small i (i + 1) (atm (sym s)) (omega arith) (tokens-mean (symLinked e) kn used h (omega arith) below-self z m)) unknown
     value-means {i} (eLinked {x = x} e) kn z m o =
         let l = typed-length typed in valued-name i (placeIn (pe x) sc) (i + 1) _ z (omega arith) e (omega arith) (lookup-e (atm (sym 0)) x sc vs l)
     value-means {i} (aLinked {x = x} e) kn z m o =
         let l = typed-length typed in valued-name i (placeIn (pa x) sc) (i + 1) _ z (omega arith) e (omega arith) (ap atm (lookup-a (sym 0) x sc vs l kn) ∙ atom-typed (atm (sym 0)) x typed kn)
-    value-means {i} (consLinked {k = kk} b w lc ld e) kn z m o = valued-cells i (kk + 1) 0 0 _ z b refl o m (tokens-mean (consLinked b w lc ld e) kn used h (omega arith) below-self z m)
+    value-means {i} (consLinked {j = j} {k = kk} {c = c} {d = d} b w lc ld e) kn z m o =
+        let x1 = exp-goes-on code sc lc in let x2 = exp-goes-on code sc ld in
+        let tc = apply σ c in let td = apply σ d in
+        valued-cells i (kk + 1) 0 0 (knownPair (1 + nodes tc)) (pair tc td) z b refl o m
+        (made-large i (kk + 1) (1 + nodes tc) (pair tc td) (omega arith) (head-written i j kk b w lc ld (kn .0) z (omega arith)) (tokens-mean (consLinked b w lc ld e) kn used h (omega arith) below-self z m)) (known-pair tc td)

@@ -31,7 +31,7 @@ argueLeft a h f = record { answer = a; heap = h; frame = f }
 
 -- an entry for a value
 abbrev pub entered : ℕ → ℕ → Valued → List ℕ → List ℕ → ArgueLeft
-entered entries nodes (At from to k) h f = let p = pushed entries 0 from to f in argueLeft (takenAs (p .answer) k (counted nodes from to)) h (p .frame)
+entered entries nodes (At from to k known) h f = let p = pushed entries known from to f in argueLeft (takenAs (p .answer) k (counted nodes from to)) h (p .frame)
 entered entries nodes ValuedOver h f = argueLeft Over h f
 
 -- on from an answer

@@ -1,8 +1,11 @@
 // The arguments of a call (001, figure 4: "the values of the arguments"): an entry for each, behind those there are.
+use crate::tokens::entry_at;
+use crate::tokens::place_at;
 use crate::value::Valued;
 use crate::value::value;
 use heap::entry::Pushed;
 use heap::entry::push_entry;
+use linking::code::NAME;
 use linking::code::link_at;
 use sets::cell;
 ghost use mathlib.Core.Path.{_≡_};
@@ -47,7 +50,7 @@ fn taken(p: Pushed, used: usize, nodes: usize) -> Argued
     }
 }
 
-// The argument at i, its entry behind so many.
+// The argument at i, its entry behind so many: of a name that of its own entry, at once.
 fn argument(
     code: &[u16; 24582],
     heap: &mut [u16; 65535],
@@ -60,10 +63,23 @@ fn argument(
 ) -> Argued
     ensures { λ r. ⌜ argueLeft r (now (heap .exit)) (now (frame .exit)) ≡ argumentAt (now (code .entry)) base entries used nodes i (now (heap .entry)) (now (frame .entry)) ⌝ }
 {
+    let l = link_at(code, i);
+    let mark = l.mark;
+    let first = l.first;
+    if mark == NAME {
+        let e = entry_at(frame, place_at(base, first));
+        let p = push_entry(frame, entries, e.known, e.from, e.to);
+        return taken(p, used, count(nodes, e.from, e.to));
+    }
     let v = value(code, heap, frame, base, used, i);
     match v {
-        Valued::At { from, to, used: k } => {
-            let p = push_entry(frame, entries, 0, from, to);
+        Valued::At {
+            from,
+            to,
+            used: k,
+            known,
+        } => {
+            let p = push_entry(frame, entries, known, from, to);
             taken(p, k, count(nodes, from, to))
         }
         Valued::Over => Argued::Over,

@@ -12,10 +12,11 @@ ghost use Rattle.sets.specs.Fill.{fillAnswer};
 ghost use Rattle.runs.specs.Runs.{written};
 ghost use Rattle.values.specs.Values.{entryAt, placeAt, tokenWritten, tokensWritten};
 
-// Where an entry's value stands.
+// Where an entry's value stands, and what is known of it.
 pub(crate) struct Place {
     pub from: usize,
     pub to: usize,
+    pub known: u16,
 }
 
 fn wide(x: u16) -> usize
@@ -31,12 +32,18 @@ pub(crate) fn entry_at(frame: &[u16; 12360], i: usize) -> Place
     if i < 4120 {
         let from = frame[3 * i + 1];
         let to = frame[3 * i + 2];
+        let known = frame[3 * i];
         return Place {
             from: wide(from),
             to: wide(to),
+            known: known,
         };
     }
-    Place { from: 0, to: 0 }
+    Place {
+        from: 0,
+        to: 0,
+        known: 0,
+    }
 }
 
 // The entry of the name with this place, the names' entries from `base` on.

@@ -23,6 +23,7 @@ use Rattle.heap.specs.declared.configuration.Configuration.{Configuration as In
 use Rattle.heap.specs.declared.configuration.Moved.{Moved}
 use Rattle.heap.specs.declared.configuration.Moved.the-variants.{On as MovedOn, Contradiction, Over as MovedOver}
 use Rattle.heap.proofs.FrameLaws.{held-kept}
+use Rattle.heap.proofs.NodeLaws.{held-few}
 use Rattle.linking.specs.Code.{linkAt}
 use Rattle.linking.specs.Linked.{BodiesLinked, noBodies, moreBodies}
 use Rattle.linking.proofs.AgreeLaws.{term-agrees}
@@ -55,8 +56,8 @@ use Rattle.turns.specs.declared.found.Ending.{Ending}
 use Rattle.turns.specs.declared.found.Ending.the-variants.{Done, Over, Spent}
 use Rattle.turns.specs.declared.found.Walked.{Walked as Came}
 use Rattle.turns.specs.declared.state.State.{State}
-use Rattle.walk.proofs.PlanLaws.{endingOf, SameFound, Walking}
-use Rattle.walk.proofs.WalkLaws.{endOf, held-few, Comes, walk-goes}
+use Rattle.walk.proofs.TurnLaws.{endingOf, SameFound, Walking}
+use Rattle.walk.proofs.WalkLaws.{endOf, Comes, walk-goes}
 
 -- What a walk over the storages came to and left is what the walk w found.
 pub record Leaves (w : Walked) (v : JobLeft) : Type 0 where

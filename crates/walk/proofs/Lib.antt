@@ -1,6 +1,6 @@
-pub mod CallTurns
+pub mod BranchTurns
 pub mod WalkTurns
 pub mod JobTurns
-pub mod PlanLaws
+pub mod TurnLaws
 pub mod WalkLaws
 pub mod JobLaws

@@ -1,64 +1,52 @@
 -- The walk over the storages is the walk of semantics/specs/Backtrack.antt.
-use Prim.Native.Nat.{ℕ, zero, suc, _+_, _-_, _*_, _≤_, _<_, min}
+use Prim.Native.Nat.{ℕ, zero, suc, _+_, _-_, _*_, _≤_, _<_}
 use mathlib.Core.Path.{_≡_, refl, ap, subst, _∙_, sym as inv}
 use mathlib.Core.Bool.{Bool, true, false, cond, false≢true}
 use mathlib.Core.List.{List, [], _∷_}
 use mathlib.Core.Option.{Option, none, some}
 use mathlib.Core.Logic.{_⊎_, inl, inr}
 use native.Mathlib.Omega.{arith}
-use native.Mathlib.Decide.{decLe}
 use lib.Dec.{eqb}
-use lib.ListN.{length, set, length-set, List·getD-eq-default}
+use lib.ListN.{length, set, length-set}
 use borrow.Author.Tests.{le-leb, lt-leb, eq-eqb, ne-eqb, ltb-true, ltb-false}
-use Rattle.expressions.specs.Expression.{Exp}
 use Rattle.expressions.specs.Intersection.{Intersected, common, disjoint, tooLarge, intersect}
 use Rattle.language.specs.Program.{Prog}
 use Rattle.semantics.specs.Configuration.{nodesState, Configuration}
 use Rattle.semantics.specs.Trace.{Successors, terminal, called, branches, successors}
 use Rattle.semantics.specs.Tree.{Node, root, afterDecision, meetingAt}
-use Rattle.semantics.specs.Walk.{stateOver, meetingOver, Limits, Stop, stop21, Untaken, tableFull, withLine, atEnd, taken, Walked, going, stopped, stateOf, linesOf, countOf}
-use Rattle.semantics.specs.Backtrack.{Choice, trailOf, replay, PathState, onPath, withTodo, withPath, Turn, ahead, exhausted, halted, afterEnd, choose, extend, extendUnless, backtrack, backtrackTo, aheadIf, replayPath, orBack, turn, walkBack, walkedOf}
+use Rattle.semantics.specs.Walk.{stateOver, meetingOver, Limits, Stop, stop21, Untaken, tableFull, withLine, atEnd, taken, Walked, going, stopped}
+use Rattle.semantics.specs.Backtrack.{Choice, trailOf, replay, PathState, onPath, withTodo, withPath, Turn, ahead, exhausted, halted, afterEnd, choose, extend, extendUnless, backtrack, backtrackTo, aheadIf, replayPath, orBack, turn, walkBack}
 use Rattle.semantics.proofs.Paths.{trail-length}
 use Rattle.semantics.proofs.Soundness.{Small, Sound}
 use Rattle.semantics.proofs.Tracing.{Scoped}
 use Rattle.semantics.proofs.Reaching.{Reaches, reaches-decision, reaches-steps, reaches-replay}
-use Rattle.heap.specs.Entries.{entryTo}
 use Rattle.heap.specs.Moving.{Left}
-use Rattle.heap.specs.declared.configuration.Configuration.{Configuration as InCells}
-use Rattle.heap.specs.declared.configuration.Moved.the-variants.{On as MovedOn, Over as MovedOver}
-use Rattle.heap.proofs.FrameLaws.{Held}
-use Rattle.heap.proofs.FrameLaws.Held.{none, more}
-use Rattle.heap.proofs.NodeLaws.{holds-nodes}
+use Rattle.heap.specs.declared.configuration.Moved.the-variants.{Over as MovedOver}
+use Rattle.heap.proofs.NodeLaws.{held-few}
 use Rattle.saving.specs.Records.{Record, recordCells}
-use Rattle.values.specs.Sizes.{sizedAs}
-use Rattle.values.proofs.StateLaws.{Arrives, nodes-positive}
+use Rattle.values.proofs.StateLaws.{Arrives}
 use Rattle.values.proofs.ContractionLaws.{pair-on, pair-over}
 use Rattle.tracing.specs.Asking.{AskLeft, askedAt, takenAs}
 use Rattle.tracing.specs.declared.ask.Asked.{Asked}
 use Rattle.tracing.proofs.ShowLaws.{Accepted}
 use Rattle.trails.specs.TrailCells.{latestPending, backtracked, pathLeft}
 use Rattle.trails.proofs.TrailLaws.{PathHeld, path-shorter, Backed, spent, turned, backs, backtrack-ended, backtrack-held}
-use Rattle.lines.proofs.LineLaws.{LinesHeld}
 use Rattle.replay.specs.Positions.{atDepth, movedFrom}
 use Rattle.replay.specs.Replaying.{ReplayLeft, broughtBack}
 use Rattle.replay.specs.declared.position.Bounds.{Bounds}
-use Rattle.replay.specs.declared.position.Position.{Position}
 use Rattle.replay.proofs.RecordLaws.{Entered, Rooted, passed, saves-more, saves-below}
-use Rattle.replay.proofs.RoomLaws.{Kept}
 use Rattle.replay.proofs.ReplayLaws.{Holds, showing, Waiting, bring-means}
 use Rattle.turns.specs.Finding.{walked, counted}
 use Rattle.turns.specs.States.{stateAt, afterMove}
-use Rattle.walk.specs.Planning.{Expanded, expanded, planned}
-use Rattle.walk.specs.Backing.{BackLeft, lookedBack, wentBack}
-use Rattle.walk.specs.Walking.{behindBack, afterPlan, nextPlanned, sizedMove, made, walkTurn, WalkedLeft, walkedFrom}
+use Rattle.walk.specs.Making.{sizedMove, branchTaken}
+use Rattle.walk.specs.Backing.{falseTaken, wentBack, TurnLeft, besideAnswer}
+use Rattle.walk.specs.Walking.{walkTurn, WalkedLeft, walkedFrom}
 use Rattle.turns.specs.declared.found.Found.{Found}
 use Rattle.turns.specs.declared.found.Ending.{Ending}
 use Rattle.turns.specs.declared.found.Ending.the-variants.{Done, Over, Spent}
-use Rattle.turns.specs.declared.found.Walked.{Walked as Came}
 use Rattle.turns.specs.declared.state.State.{State}
-use Rattle.turns.specs.declared.state.Plan.the-variants.{Take, Stop as Stopped}
 use Rattle.turns.specs.declared.state.Turn.the-variants.{On as TurnOn, Stop as TurnStop}
-use Rattle.walk.proofs.PlanLaws.{endingOf, SameFound, Undone, Way, reaches-small, Walking, Ready, Exhausted, PlanMeans, plan-means}
+use Rattle.walk.proofs.TurnLaws.{endingOf, SameFound, Undone, reaches-small, Walking, Ready, Exhausted, Takes, NodeMeans, node-means}
 
 -- a path that goes back has its storage
 back-length : (path : List ℕ) (depth : ℕ) → length (backtracked path depth .path) ≡ length path
@@ -68,15 +56,6 @@ back-length path depth = pick (eqb (latestPending path depth) 0)
     pick : (b : Bool) → length (cond b (pathLeft 0 path) (pathLeft (latestPending path depth) (set path (latestPending path depth - 1) 0)) .path) ≡ length path
     pick true = refl
     pick false = length-set path (latestPending path depth - 1) 0
-
--- entries that are held stand in the frame
-pub held-few : {h : List ℕ} {used : ℕ} {f : List ℕ} {i : ℕ} {ts : List Exp} → Held h used f i ts → length f ≡ 12360 → i ≤ 4120 → i + length ts ≤ 4120
-held-few none l m = omega arith
-held-few {f = f} {i = i} (more {t = t} {ts = ts} x r) l m = past (decLe 4120 i) (λ n. held-few r l n)
-  where
-    past : Dec (4120 ≤ i) → (i + 1 ≤ 4120 → i + 1 + length ts ≤ 4120) → i + length (t ∷ ts) ≤ 4120
-    past (yes n) again = let z : entryTo f i ≡ 0 = List·getD-eq-default f 0 {n = 3 * i + 2} (omega arith) in absurd (omega (arith, z, holds-nodes x, nodes-positive t))
-    past (no n) again = omega (arith, again (omega arith))
 
 -- the ending of a walk
 abbrev pub endOf : Walked → Ending
@@ -98,16 +77,19 @@ module _ (p : Prog) (bodies : ℕ → ℕ) (code : List ℕ) (ok : Accepted p bo
   abbrev Readied : Untaken → PathState → List ℕ → List ℕ → List ℕ → List ℕ → List ℕ → List ℕ → State → Asked → Bool → Type 0
   Readied i s h f q path saved a st k b = Ready p bodies code ok K₀ N most y₁ b₀ base bottom low-base entered₀ m₁ leads₁ first lim few-lines bounds of-steps of-table of-base i s h f q path saved a st k b
 
-  abbrev Planned : Turn → Expanded → Type 0
-  Planned t w = PlanMeans p bodies code ok K₀ N most y₁ b₀ base bottom low-base entered₀ m₁ leads₁ first lim few-lines bounds of-steps of-table of-base t w
+  abbrev Taking : Untaken → PathState → TurnLeft → Type 0
+  Taking i s w = Takes p bodies code ok K₀ N most y₁ b₀ base bottom low-base entered₀ m₁ leads₁ first lim few-lines bounds of-steps of-table of-base i s w
+
+  abbrev AtNode : Turn → TurnLeft → Type 0
+  AtNode t w = NodeMeans p bodies code ok K₀ N most y₁ b₀ base bottom low-base entered₀ m₁ leads₁ first lim few-lines bounds of-steps of-table of-base t w
 
   abbrev Walks : ℕ → Node → PathState → List ℕ → List ℕ → List ℕ → List ℕ → List ℕ → List ℕ → State → Type 0
   Walks m y s h f q path saved a st = Walking p bodies code ok K₀ N most y₁ b₀ base bottom low-base entered₀ m₁ leads₁ first lim few-lines bounds of-steps of-table of-base m y s h f q path saved a st
 
-  abbrev NextMeans : Turn → Expanded → Type 0
-  NextMeans (ahead i s) w = (st : State) × (k : Asked) × (b : Bool) × (w .plan ≡ Take st k b) × Readied i s (w .heap) (w .frame) (w .q) (w .path) (w .saved) (w .answer) st k b
-  NextMeans (exhausted s) w = (g : Found) × (w .plan ≡ Stopped (walked Done g)) × SameFound s (w .answer) g
-  NextMeans (halted z s) w = (g : Found) × (w .plan ≡ Stopped (walked (endingOf z) g)) × SameFound s (w .answer) g
+  abbrev NextMeans : Turn → TurnLeft → Type 0
+  NextMeans (ahead i s) w = Taking i s w
+  NextMeans (exhausted s) w = (g : Found) × (w .turn ≡ TurnStop Done g) × SameFound s (w .answer) g
+  NextMeans (halted z s) w = (g : Found) × (w .turn ≡ TurnStop (endingOf z) g) × SameFound s (w .answer) g
 
   undone-latest : (cs : List Choice) → Left-undone cs → (b : Choice) (ds : List Choice) → backtrack cs ≡ b ∷ ds → Waits ds × Left-undone ds
   undone-latest [] u b ds e = let z : _≡_ {A = ℕ} 0 1 = cc in absurd (omega arith)
@@ -122,8 +104,8 @@ module _ (p : Prog) (bodies : ℕ → ℕ) (code : List ℕ) (ok : Accepted p bo
 
   -- going back
   module _ (s : PathState) (h f q path saved a : List ℕ) (st : State) (x : Exhausted p bodies code ok K₀ N most y₁ b₀ base bottom low-base entered₀ m₁ leads₁ first lim few-lines bounds of-steps of-table of-base s h f q path saved a st) where
-    abbrev goes : Expanded
-    goes = behindBack a (wentBack code bounds st h f q path saved)
+    abbrev goes : TurnLeft
+    goes = besideAnswer a (wentBack code bounds st h f q path saved)
 
     found-on : (cs : List Choice) → SameFound (withPath cs s) a (st .found)
     found-on cs = record { lines = x .found .lines; long = x .found .long; counts = x .found .counts; cuts = x .found .cuts }
@@ -178,12 +160,26 @@ module _ (p : Prog) (bodies : ℕ → ℕ) (code : List ℕ) (ok : Accepted p bo
             found = found-on (off ∷ ds);
           }
 
-      went : wentBack code bounds st h f q path saved ≡ lookedBack code after (suc (length ds)) (st .found) brings
+      went : wentBack code bounds st h f q path saved ≡ falseTaken code (bounds .walk) after (suc (length ds)) (st .found) brings
       unfolding wentBack
       went = let z : suc (length ds) - 1 ≡ length ds = omega arith in rw (left-off .0, ne-eqb (suc (length ds)) 0 (λ i. omega arith), z, of-base, of-steps)
 
       back-taken : NextMeans (replayPath p N (root K₀) s (off ∷ ds)) goes
-      back-taken = let r = reaches-replay p E false (waiting .leads) (waiting .decides) refl in rw (r, went) (_, _, false, refl, ready)
+      back-taken =
+          let r = reaches-replay p E false (waiting .leads) (waiting .decides) refl in
+          rw (r, went) (record {
+            heap = asks .heap;
+            frame = brings .frame;
+            q = brings .q;
+            path = after;
+            saved = brings .saved;
+            answer = a;
+            from = stateAt (atDepth (brings .position .node) (suc (length ds)) (brings .position .top)) (st .found);
+            asked = asks .asked;
+            branch = false;
+            is = refl;
+            ready = ready;
+          })
 
     back-means : NextMeans (replayPath p N (root K₀) s (backtrack (s .path))) goes
     back-means = go (backtrack (s .path)) (backs (s .path)) refl
@@ -192,16 +188,15 @@ module _ (p : Prog) (bodies : ℕ → ℕ) (code : List ℕ) (ok : Accepted p bo
         go bs spent e = back-done e
         go bs (turned c ds es f q) e = back-taken ds e
 
-  -- The transition that comes next, on this path or behind it, is that of the definitions.
+  -- The transition that a turn makes, on this path or behind it, is that of the definitions.
   next-means : {m : ℕ} {y : Node} {s : PathState} {h f q path saved a : List ℕ} {st : State} → Walks m y s h f q path saved a st →
-      NextMeans (orBack p N (root K₀) (extend lim m y (successors p (y .conf)) s)) (nextPlanned code bounds st h f q path saved a)
-  unfolding nextPlanned
-  next-means {m} {y} {s} {h} {f} {q} {path} {saved} {a} {st} w = go (extend lim m y (successors p (y .conf)) s) (planned code bounds st h f q path saved a) (plan-means p bodies code ok K₀ N most y₁ b₀ base bottom low-base entered₀ m₁ leads₁ first lim few-lines bounds of-steps of-table of-base w)
+      NextMeans (orBack p N (root K₀) (extend lim m y (successors p (y .conf)) s)) (walkTurn code bounds st h f q path saved a)
+  next-means {m} {y} {s} {h} {f} {q} {path} {saved} {a} {st} w = go (extend lim m y (successors p (y .conf)) s) (walkTurn code bounds st h f q path saved a) (node-means p bodies code ok K₀ N most y₁ b₀ base bottom low-base entered₀ m₁ leads₁ first lim few-lines bounds of-steps of-table of-base w)
     where
-      go : (t : Turn) (v : Expanded) → Planned t v → NextMeans (orBack p N (root K₀) t) (afterPlan code bounds v (v .plan))
-      go (ahead i u) v k = rw (k .3) (k .0, k .1, k .2, refl, k .4)
-      go (exhausted u) v k = rw (k .1) (back-means u (v .heap) (v .frame) (v .q) (v .path) (v .saved) (v .answer) (k .0) (k .2))
-      go (halted z u) v k = rw (k .1) (k .0, refl, k .2)
+      go : (t : Turn) (v : TurnLeft) → AtNode t v → NextMeans (orBack p N (root K₀) t) v
+      go (ahead i u) v k = k
+      go (exhausted u) v k = rw (k .is) (back-means u (k .heap) (k .frame) (k .q) (k .path) (k .saved) (k .answer) (k .from) (k .done))
+      go (halted z u) v k = k
 
   abbrev turnCount : Turn → ℕ
   turnCount (ahead i s) = s .count
@@ -268,9 +263,15 @@ module _ (p : Prog) (bodies : ℕ → ℕ) (code : List ℕ) (ok : Accepted p bo
         Comes (walkBack p lim N (root K₀) v (orBack p N (root K₀) (extend lim m y (successors p (y .conf)) s))) (walkedFrom code bounds left st h f q path saved a)
 
     -- the transition to i
-    module _ (i : Untaken) (s : PathState) (T : Expanded) (st : State) (k : Asked) (b : Bool) (r : Readied i s (T .heap) (T .frame) (T .q) (T .path) (T .saved) (T .answer) st k b) (v : ℕ) (c : s .count + suc v ≡ lim .walk) where
+    module _ (i : Untaken) (s : PathState) {W : TurnLeft} (T : Taking i s W) (v : ℕ) (c : s .count + suc v ≡ lim .walk) where
+      abbrev st : State
+      st = T .from
+
+      abbrev r : Readied i s (T .heap) (T .frame) (T .q) (T .path) (T .saved) (T .answer) st (T .asked) (T .branch)
+      r = T .ready
+
       abbrev step : Left
-      step = takenAs code (st .at .node .at) k b (T .heap) (T .frame) (T .q)
+      step = takenAs code (st .at .node .at) (T .asked) (T .branch) (T .heap) (T .frame) (T .q)
 
       abbrev next : PathState
       next = onPath (s .path) (taken [] (withTodo [] s))
@@ -317,7 +318,7 @@ module _ (p : Prog) (bodies : ℕ → ℕ) (code : List ℕ) (ok : Accepted p bo
 
       -- "21 over 4,096 nodes: .. after a transition"
       over-move : 4096 < nodesState (i .node .conf .cr) → ((step .answer ≡ MovedOver) × (4097 < nodesState (i .node .conf .cr))) ⊎ Arrives p bodies code (r .before) (st .at .node .at .used) (i .node .conf) step →
-          afterMove st (sizedMove (step .answer) (step .frame)) ≡ TurnStop (walked Over (counted (st .found)))
+          afterMove st (sizedMove (step .answer) (step .frame)) ≡ TurnStop Over (counted (st .found))
       over-move l (inl o) = rw (o .0)
       over-move l (inr to) = let v = to .stands .holds in rw (to .moved, pair-over v (omega (arith, v .entries, held-few (v .held) (v .frame-size) (omega arith))) l)
 
@@ -327,30 +328,26 @@ module _ (p : Prog) (bodies : ℕ → ℕ) (code : List ℕ) (ok : Accepted p bo
       arrives l (inr to) = to
 
     -- a turn
-    turn-ends : (v left : ℕ) (st : State) (h f q path saved a : List ℕ) (t : Turn) → NextMeans t (nextPlanned code bounds st h f q path saved a) → turnCount t + v ≡ lim .walk → ((u : ℕ) → v ≡ suc u → Goes u left) →
+    turn-ends : (v left : ℕ) (st : State) (h f q path saved a : List ℕ) (t : Turn) → NextMeans t (walkTurn code bounds st h f q path saved a) → turnCount t + v ≡ lim .walk → ((u : ℕ) → v ≡ suc u → Goes u left) →
         Comes (walkBack p lim N (root K₀) v t) (walkedFrom code bounds (suc left) st h f q path saved a)
-    unfolding walkBack turn walkedFrom walkTurn made
+    unfolding walkBack turn walkedFrom branchTaken
     turn-ends v left st h f q path saved a (exhausted s) x c again = rw (exhausted-stays v s, x .1) (x .0, refl, x .2)
     turn-ends v left st h f q path saved a (halted z s) x c again = rw (halted-stays v z s, x .1) (x .0, refl, x .2)
     turn-ends zero left st h f q path saved a (ahead i s) x c again =
-        rw (x .3, le-leb (bounds .walk) (x .0 .found .count) (omega (arith, x .4 .found .counts, of-walk))) (x .0 .found, refl, x .4 .found)
+        rw (x .is, le-leb (bounds .walk) (x .from .found .count) (omega (arith, x .ready .found .counts, of-walk))) (x .from .found, refl, x .ready .found)
     turn-ends (suc v) left st h f q path saved a (ahead i s) x c again = go (stateOver (i .node .conf .cr)) refl
       where
         go : (o : Bool) → stateOver (i .node .conf .cr) ≡ o →
             Comes (walkBack p lim N (root K₀) v (orBack p N (root K₀) (extendUnless p lim i (onPath (s .path) (taken [] (withTodo [] s))) o))) (walkedFrom code bounds (suc left) st h f q path saved a)
         go true e =
-            let T = nextPlanned code bounds st h f q path saved a in
-            let m = over-move i s T (x .0) (x .1) (x .2) (x .4) v c (ltb-true 4096 (nodesState (i .node .conf .cr)) e) (x .4 .to .to (i .node .conf) refl) in
-            rw (halted-stays v stop21 (onPath (s .path) (taken [] (withTodo [] s))), x .3, lt-leb (bounds .walk) (x .0 .found .count) (free i s T (x .0) (x .1) (x .2) (x .4) v c), m)
-            (counted (x .0 .found), refl, found-next i s T (x .0) (x .1) (x .2) (x .4) v c)
+            let m = over-move i s x v c (ltb-true 4096 (nodesState (i .node .conf .cr)) e) (x .ready .to .to (i .node .conf) refl) in
+            rw (halted-stays v stop21 (onPath (s .path) (taken [] (withTodo [] s))), x .is, lt-leb (bounds .walk) (x .from .found .count) (free i s x v c), m) (counted (x .from .found), refl, found-next i s x v c)
         go false e =
-            let T = nextPlanned code bounds st h f q path saved a in
             let size = ltb-false 4096 (nodesState (i .node .conf .cr)) e in
-            let to = arrives i s T (x .0) (x .1) (x .2) (x .4) v c size (x .4 .to .to (i .node .conf) refl) in
-            let z = step i s T (x .0) (x .1) (x .2) (x .4) v c in
-            rw (x .3, lt-leb (bounds .walk) (x .0 .found .count) (free i s T (x .0) (x .1) (x .2) (x .4) v c), moves-on i s T (x .0) (x .1) (x .2) (x .4) v c size to)
-            (again v refl (i .left) (i .node) (onPath (s .path) (taken [] (withTodo [] s))) (z .heap) (z .frame) (z .q) (T .path) (T .saved) (T .answer) (state-next i s T (x .0) (x .1) (x .2) (x .4) v c size to)
-            (on i s T (x .0) (x .1) (x .2) (x .4) v c size to) (omega (arith, c)))
+            let to = arrives i s x v c size (x .ready .to .to (i .node .conf) refl) in
+            let z = step i s x v c in
+            rw (x .is, lt-leb (bounds .walk) (x .from .found .count) (free i s x v c), moves-on i s x v c size to)
+            (again v refl (i .left) (i .node) (onPath (s .path) (taken [] (withTodo [] s))) (z .heap) (z .frame) (z .q) (x .path) (x .saved) (x .answer) (state-next i s x v c size to) (on i s x v c size to) (omega (arith, c)))
 
     -- THE LAW of the loop: it is `walkBack`.
     pub walk-goes : (v left : ℕ) → v < left → Goes v left

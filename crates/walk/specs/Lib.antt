@@ -1,4 +1,5 @@
-pub mod Planning
+pub mod Leaves
+pub mod Making
 pub mod Backing
 pub mod Walking
 pub mod Jobs

@@ -2,6 +2,6 @@
 // defined in specs/; proofs/WalkLaws.antt says that it is the walk of semantics/specs/Backtrack.antt.
 pub mod back;
 pub mod job;
+pub mod leaves;
 pub mod make;
-pub mod plan;
 pub mod walk;

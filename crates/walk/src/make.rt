@@ -1,26 +1,31 @@
-// A transition made, by what a term asks or, of a call, at once.
+// A transition made: of a call, or of a condition by the branch that is taken first.
+use heap::configuration::Branches;
+use heap::configuration::Configuration;
 use heap::configuration::Moved;
-use linking::code::CALL;
-use linking::code::link_at;
 use replay::position::Bounds;
 use replay::position::Position;
-use replay::room::is_tight;
-use saving::head::used_at;
+use replay::position::at_depth;
+use replay::replay::save_if;
 use tracing::ask::Asked;
+use tracing::ask::ask;
+use tracing::ask::branches;
 use tracing::take::take;
-use turns::choice::is_deep;
+use trails::trail::push_choice;
+use turns::choice::first_branch;
+use turns::choice::is_both;
 use turns::choice::is_spent;
-use turns::found;
 use turns::found::Ending;
 use turns::state::State;
 use turns::state::Turn;
 use turns::state::after_move;
+use turns::state::state_at;
 use values::call::call;
 use values::names::names_from;
 use values::size::sized;
 ghost use mathlib.Core.Path.{_≡_};
 ghost use mathlib.Core.Bool.{Bool};
-ghost use Rattle.walk.specs.Walking.{sizedMove, madeLeft, made, isPlainCall, calledLeft, madeCall};
+ghost use Rattle.heap.specs.Moving.{left as leaves};
+ghost use Rattle.walk.specs.Making.{sizedMove, movedOn, calledLeft, madeCall, choiceLeft, choiceRecorded, branchLeft, madeChoice};
 
 // "21 over 4,096 nodes: .. after a transition"
 fn sized_move(frame: &[u16; 12360], m: Moved) -> Moved
@@ -33,55 +38,23 @@ fn sized_move(frame: &[u16; 12360], m: Moved) -> Moved
     }
 }
 
-// The transition that comes next: "23 a transition would be number W+1".
-pub(crate) fn make(
+// The transition by a branch.
+pub(crate) fn move_on(
     code: &[u16; 24582],
     heap: &mut [u16; 65535],
     frame: &mut [u16; 12360],
     q: &mut [u16; 4096],
-    s: State,
+    c: Configuration,
     a: Asked,
     taken: bool,
-    walk: usize,
-) -> Turn
-    ensures { λ r. ⌜ madeLeft r (now (heap .exit)) (now (frame .exit)) (now (q .exit)) ≡ made (now (code .entry)) s a taken walk (now (heap .entry)) (now (frame .entry)) (now (q .entry)) ⌝ }
+) -> Moved
+    ensures { λ r. ⌜ leaves r (now (heap .exit)) (now (frame .exit)) (now (q .exit)) ≡ movedOn (now (code .entry)) c a taken (now (heap .entry)) (now (frame .entry)) (now (q .entry)) ⌝ }
 {
-    let f = s.found;
-    if is_spent(walk, f) {
-        return Turn::Stop(found::stopped(Ending::Spent, f));
-    }
-    let p = s.at;
-    let n = p.node;
-    let m = take(code, heap, frame, q, n.at, a, taken);
-    let z = sized_move(frame, m);
-    after_move(s, z)
+    let m = take(code, heap, frame, q, c, a, taken);
+    sized_move(frame, m)
 }
 
-// Whether a call stands here that is no deeper than the walk goes, with room in the heap: then nothing else is to be done first.
-pub(crate) fn is_plain_call(
-    code: &[u16; 24582],
-    saved: &[u16; 16384],
-    p: Position,
-    b: Bounds,
-) -> bool
-    ensures { λ r. ⌜ r ≡ isPlainCall (now (code .entry)) (now (saved .entry)) p b ⌝ }
-{
-    let n = p.node;
-    let c = n.at;
-    let l = link_at(code, c.place);
-    if l.mark == CALL {
-        if is_tight(c.used, used_at(saved, p.top)) {
-            return false;
-        }
-        if is_deep(b, n) {
-            return false;
-        }
-        return true;
-    }
-    false
-}
-
-// The transition of a call.
+// The transition of a call: "23 a transition would be number W+1".
 pub(crate) fn make_call(
     code: &[u16; 24582],
     heap: &mut [u16; 65535],
@@ -93,11 +66,63 @@ pub(crate) fn make_call(
 {
     let f = s.found;
     if is_spent(walk, f) {
-        return Turn::Stop(found::stopped(Ending::Spent, f));
+        return Turn::Stop {
+            ending: Ending::Spent,
+            found: f,
+        };
     }
     let p = s.at;
     let n = p.node;
     let m = call(code, heap, frame, names_from(n.at), n.at);
     let after = sized_move(frame, m);
     after_move(s, after)
+}
+
+// The choice among these branches recorded on the path, and the configuration saved where the false one is untaken.
+fn record_choice(
+    frame: &[u16; 12360],
+    q: &[u16; 4096],
+    path: &mut [u16; 1000],
+    saved: &mut [u16; 16384],
+    p: Position,
+    w: Branches,
+    base: usize,
+) -> Position
+    ensures { λ r. ⌜ choiceLeft r (now (path .exit)) (now (saved .exit)) ≡ choiceRecorded p w base (now (frame .entry)) (now (q .entry)) (now (path .entry)) (now (saved .entry)) ⌝ }
+{
+    let n = p.node;
+    let both = is_both(w);
+    let depth = push_choice(path, n.depth, first_branch(w), both);
+    let top = save_if(frame, q, saved, p, base, both);
+    at_depth(n, depth, top)
+}
+
+// The transition of a condition: "true branch first"; a branch that contradicts is none.
+pub(crate) fn make_choice(
+    code: &[u16; 24582],
+    heap: &mut [u16; 65535],
+    frame: &mut [u16; 12360],
+    q: &mut [u16; 4096],
+    path: &mut [u16; 1000],
+    saved: &mut [u16; 16384],
+    s: State,
+    b: Bounds,
+) -> Turn
+    ensures { λ r. ⌜ branchLeft r (now (heap .exit)) (now (frame .exit)) (now (q .exit)) (now (path .exit)) (now (saved .exit)) ≡ madeChoice (now (code .entry)) b s (now (heap .entry)) (now (frame .entry)) (now (q .entry)) (now (path .entry)) (now (saved .entry)) ⌝ }
+{
+    let p = s.at;
+    let f = s.found;
+    let n = p.node;
+    let c = n.at;
+    let a = ask(code, heap, frame, c);
+    let w = branches(q, c.neqs, a);
+    let at = record_choice(frame, q, path, saved, p, w, b.base);
+    if is_spent(b.walk, f) {
+        return Turn::Stop {
+            ending: Ending::Spent,
+            found: f,
+        };
+    }
+    let m = move_on(code, heap, frame, q, c, a, first_branch(w));
+    after_move(state_at(at, f), m)
 }

@@ -1,44 +1,33 @@
 // The walk: one transition of the tree a turn.
-use crate::back::go_back;
-use crate::make::is_plain_call;
-use crate::make::make;
+use crate::back::turn_back;
 use crate::make::make_call;
-use crate::plan::plan_here;
+use crate::make::make_choice;
+use linking::code::link_at;
 use replay::position::Bounds;
+use replay::room::have_room;
+use saving::head::Node;
 use sets::cell;
+use turns::choice::Way;
+use turns::choice::way_on;
 use turns::found;
 use turns::found::Ending;
 use turns::found::Walked;
-use turns::state::Plan;
 use turns::state::State;
 use turns::state::Turn;
+use turns::state::state_at;
 ghost use mathlib.Core.Path.{_≡_};
-ghost use Rattle.walk.specs.Planning.{expanded};
-ghost use Rattle.walk.specs.Walking.{nextPlanned, turnLeft, walkTurn, walkedLeft, walkedOn};
+ghost use Rattle.walk.specs.Backing.{turnLeft};
+ghost use Rattle.walk.specs.Walking.{wayAt, walkTurn, walkedLeft, walkedOn};
 
-// What comes next, on this path or behind it.
-fn next_plan(
-    code: &[u16; 24582],
-    heap: &mut [u16; 65535],
-    frame: &mut [u16; 12360],
-    q: &mut [u16; 4096],
-    path: &mut [u16; 1000],
-    saved: &mut [u16; 16384],
-    answer: &mut [u16],
-    s: State,
-    b: Bounds,
-) -> Plan
-    ensures { λ r. ⌜ expanded r (now (heap .exit)) (now (frame .exit)) (now (q .exit)) (now (path .exit)) (now (saved .exit)) (now (answer .exit)) ≡ nextPlanned (now (code .entry)) b s (now (heap .entry)) (now (frame .entry)) (now (q .entry)) (now (path .entry)) (now (saved .entry)) (now (answer .entry)) ⌝ }
+fn way_at(code: &[u16; 24582], n: Node, b: Bounds) -> Way
+    ensures { λ r. ⌜ r ≡ wayAt (now (code .entry)) b n ⌝ }
 {
-    let p = plan_here(code, heap, frame, q, path, saved, answer, s, b);
-    match p {
-        Plan::Take { from, asked, taken } => Plan::Take { from, asked, taken },
-        Plan::Back(t) => go_back(code, heap, frame, q, path, saved, t, b),
-        Plan::Stop(w) => Plan::Stop(w),
-    }
+    let c = n.at;
+    let l = link_at(code, c.place);
+    way_on(l.mark, b, n)
 }
 
-// A call is made at once: nothing of a plan has to be kept for it.
+// A call or a condition makes its transition; a leaf has none, and the walk goes on behind it.
 fn walk_turn(
     code: &[u16; 24582],
     heap: &mut [u16; 65535],
@@ -47,21 +36,19 @@ fn walk_turn(
     path: &mut [u16; 1000],
     saved: &mut [u16; 16384],
     answer: &mut [u16],
-    s: State,
+    from: State,
     b: Bounds,
 ) -> Turn
-    ensures { λ r. ⌜ turnLeft r (now (heap .exit)) (now (frame .exit)) (now (q .exit)) (now (path .exit)) (now (saved .exit)) (now (answer .exit)) ≡ walkTurn (now (code .entry)) b s (now (heap .entry)) (now (frame .entry)) (now (q .entry)) (now (path .entry)) (now (saved .entry)) (now (answer .entry)) ⌝ }
+    ensures { λ r. ⌜ turnLeft r (now (heap .exit)) (now (frame .exit)) (now (q .exit)) (now (path .exit)) (now (saved .exit)) (now (answer .exit)) ≡ walkTurn (now (code .entry)) b from (now (heap .entry)) (now (frame .entry)) (now (q .entry)) (now (path .entry)) (now (saved .entry)) (now (answer .entry)) ⌝ }
 {
-    if is_plain_call(code, saved, s.at, b) {
-        return make_call(code, heap, frame, s, b.walk);
-    }
-    let p = next_plan(code, heap, frame, q, path, saved, answer, s, b);
-    match p {
-        Plan::Take { from, asked, taken } => {
-            make(code, heap, frame, q, from, asked, taken, b.walk)
-        }
-        Plan::Back(t) => Turn::Stop(found::stopped(Ending::Done, t.found)),
-        Plan::Stop(w) => Turn::Stop(w),
+    let f = from.found;
+    let p = have_room(heap, frame, saved, from.at, b.base);
+    let s = state_at(p, f);
+    let w = way_at(code, p.node, b);
+    match w {
+        Way::Call => make_call(code, heap, frame, s, b.walk),
+        Way::Choice => make_choice(code, heap, frame, q, path, saved, s, b),
+        Way::Leaf => turn_back(code, heap, frame, q, path, saved, answer, s, b),
     }
 }
 
@@ -87,8 +74,8 @@ pub fn walk_on(
             Turn::On(next) => {
                 s = next;
             }
-            Turn::Stop(w) => {
-                return w;
+            Turn::Stop { ending, found } => {
+                return found::stopped(ending, found);
             }
         }
         left -= 1;

@@ -1,6 +1,6 @@
-//! Listings: what `list` says, prints and leaves, and what its lines mean.
+//! Listings: what `list` says, prints and leaves, alone and with its first page, and what its lines mean.
 use crate::entry::Entry;
-use raugvite::{list_in, list_lengths, print_list, Expression, Listed};
+use raugvite::{list_in, list_lengths, list_print_in, print_list, Expression, Listed};
 use reference::expression::{Expression as Tree, Kind};
 use reference::ground::{check_listing, Universe};
 use reference::job_check::Tool;
@@ -48,6 +48,61 @@ impl Entry for List {
             at + 4 + part(1) + part(2) + 2 * part(3)
         });
         Some(end)
+    }
+}
+
+// Short, so that many listings have more than their first page.
+const PAGE: usize = 100;
+
+/// What the listing with its first page says, and the page.
+#[derive(Clone, Copy, Debug, PartialEq)]
+pub struct First {
+    said: Listed,
+    bytes: usize,
+    page: [u8; PAGE],
+}
+
+const fn beginning(text: &[u8]) -> [u8; PAGE] {
+    let mut page = [0; PAGE];
+    let mut i = 0;
+    while i < text.len() {
+        page[i] = text[i];
+        i += 1;
+    }
+    page
+}
+
+pub struct ListPrint;
+
+impl Entry for ListPrint {
+    type Said = First;
+    const SHORT: First = First { said: Listed::Short, bytes: 15, page: beginning(b"refused - 20 0\n") };
+
+    fn lengths() -> (usize, usize) {
+        list_lengths()
+    }
+
+    fn call(program: &[u8], job: &[u8], work: &mut [u16], answer: &mut [u16]) -> First {
+        let mut page = [b'?'; PAGE];
+        let (said, bytes) = list_print_in(program, job, work, answer, &mut page);
+        First { said, bytes, page }
+    }
+
+    // The page, zero behind its text, and what is printed behind it.
+    fn printed(program: &[u8], job: &[u8], first: First, answer: &[u16]) -> Vec<u8> {
+        if first.page[first.bytes..].iter().any(|&b| b != 0) {
+            return first.page.to_vec();
+        }
+        let all = print_list(program, job, first.said, answer);
+        [&first.page[..first.bytes], &all[first.bytes..]].concat()
+    }
+
+    fn due(program: &[u8], job: &[u8]) -> Vec<u8> {
+        List::due(program, job)
+    }
+
+    fn filled(first: First, answer: &[u16]) -> Option<usize> {
+        List::filled(first.said, answer)
     }
 }
 

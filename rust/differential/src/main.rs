@@ -13,7 +13,7 @@ mod program;
 mod runs;
 
 use entry::{compare, short};
-use listings::List;
+use listings::{List, ListPrint};
 use reference::generate::{case, limit_cases, Case};
 use runs::Run;
 use std::time::Instant;
@@ -40,8 +40,10 @@ impl Tally {
 fn entries(name: &str, seed: u64, texts: &Case, tally: &mut Tally) {
     let (p, j) = (&texts.program[..], &texts.job[..]);
     tally.add(&format!("{name}, listing"), compare::<List>(p, j, seed));
+    tally.add(&format!("{name}, listing with its first page"), compare::<ListPrint>(p, j, seed));
     tally.add(&format!("{name}, run"), compare::<Run>(p, j, seed));
     tally.add(&format!("{name}, short storage"), short::<List>(p, j, seed));
+    tally.add(&format!("{name}, short storage of both"), short::<ListPrint>(p, j, seed));
     tally.add(&format!("{name}, short storage of a run"), short::<Run>(p, j, seed));
 }
 

@@ -33,7 +33,7 @@ fn leaf(cell: u16, words: &[String]) -> Expression {
 
 // The trees are read from the back, so that a pair finds its two parts on a stack and no tree is too deep for it.
 pub fn trees(cells: &[u16], words: &[String]) -> Vec<Expression> {
-    let mut found: Vec<Expression> = Vec::new();
+    let mut found: Vec<Expression> = Vec::with_capacity(cells.len());
     for &cell in cells.iter().rev() {
         if cell == 4 {
             if let (Some(head), Some(tail)) = (found.pop(), found.pop()) {
@@ -50,7 +50,7 @@ pub fn trees(cells: &[u16], words: &[String]) -> Vec<Expression> {
 /// The given number of lines, one behind the other.
 pub fn lines(answer: &[u16], count: usize, words: &[String]) -> Vec<Line> {
     let mut at = 0;
-    let mut found = Vec::new();
+    let mut found = Vec::with_capacity(count);
     for _ in 0..count {
         let [steps, i, o, q] = [0, 1, 2, 3].map(|k| usize::from(answer[at + k]));
         let cells = &answer[at + 4..at + 4 + i + o + 2 * q];

@@ -1,8 +1,9 @@
 //! The resolver for loader rules, from Rust.
 //!
 //! [`list`] gives the listing of a program and a job with its lines as owned expressions, [`run`] the program run forwards on the job's inputs.
-//! [`list_in`] and [`run_in`] work in storage that the caller lends. All of them end for any bytes and any storage; what is proved of them is in
-//! docs/CONTRACTS.md, and what the boundary adds in docs/TRUST.md. A call takes up to 400 KB of stack; a thread that Rust starts has 2 MB.
+//! [`list_in`], [`list_print_in`] and [`run_in`] work in storage that the caller lends. All of them end for any bytes and any storage; what is
+//! proved of them is in docs/CONTRACTS.md, and what the boundary adds in docs/TRUST.md. A call takes up to 400 KB of stack; a thread that Rust
+//! starts has 2 MB.
 mod cells;
 mod symbols;
 mod sys;
@@ -59,9 +60,7 @@ pub fn run_lengths() -> (usize, usize) {
     sys::run_lengths()
 }
 
-/// The listing of a program and a job, in lent storage.
-pub fn list_in(program: &[u8], job: &[u8], work: &mut [u16], answer: &mut [u16]) -> Listed {
-    let (kind, first, second) = sys::list(program, job, work, answer);
+fn listed(kind: usize, first: usize, second: usize) -> Listed {
     match kind {
         0 => Listed::Whole { lines: first, count: second },
         1 => Listed::Cut { lines: first, count: second },
@@ -72,6 +71,18 @@ pub fn list_in(program: &[u8], job: &[u8], work: &mut [u16], answer: &mut [u16])
         6 => Listed::Job { number: first, offset: second },
         _ => Listed::Short,
     }
+}
+
+/// The listing of a program and a job, in lent storage.
+pub fn list_in(program: &[u8], job: &[u8], work: &mut [u16], answer: &mut [u16]) -> Listed {
+    let (kind, first, second) = sys::list(program, job, work, answer);
+    listed(kind, first, second)
+}
+
+/// The same, and in `out` the printed text from its first byte on: how many bytes of it there are. The texts are read once.
+pub fn list_print_in(program: &[u8], job: &[u8], work: &mut [u16], answer: &mut [u16], out: &mut [u8]) -> (Listed, usize) {
+    let (kind, [first, second, bytes]) = sys::list_print(program, job, work, answer, out);
+    (listed(kind, first, second), bytes)
 }
 
 /// The program run forwards on the job's inputs, in lent storage.
@@ -89,6 +100,11 @@ pub fn run_in(program: &[u8], job: &[u8], work: &mut [u16], answer: &mut [u16]) 
 
 /// The printed text of an answer, whole; `answer` is the storage that [`list_in`] left.
 pub fn print_list(program: &[u8], job: &[u8], said: Listed, answer: &[u16]) -> Vec<u8> {
+    print_list_on(program, job, said, answer, Vec::new())
+}
+
+// The rest of the text behind what is there.
+fn print_list_on(program: &[u8], job: &[u8], said: Listed, answer: &[u16], text: Vec<u8>) -> Vec<u8> {
     let (kind, first, second) = match said {
         Listed::Whole { lines, count } => (0, lines, count),
         Listed::Cut { lines, count } => (1, lines, count),
@@ -99,7 +115,7 @@ pub fn print_list(program: &[u8], job: &[u8], said: Listed, answer: &[u16]) -> V
         Listed::Job { number, offset } => (6, number, offset),
         Listed::Short => (7, 20, 0),
     };
-    pages(|from, page| sys::print_list(program, job, [kind, first, second], answer, from, page))
+    pages(text, |from, page| sys::print_list(program, job, [kind, first, second], answer, from, page))
 }
 
 /// The same of a run; `answer` is the storage that [`run_in`] left.
@@ -112,12 +128,11 @@ pub fn print_run(program: &[u8], job: &[u8], said: Ran, answer: &[u16]) -> Vec<u
         Ran::Job { number, offset } => (4, number, offset),
         Ran::Short => (5, 20, 0),
     };
-    pages(|from, page| sys::print_run(program, job, [kind, first, second], answer, from, page))
+    pages(Vec::new(), |from, page| sys::print_run(program, job, [kind, first, second], answer, from, page))
 }
 
 // A text is fetched page by page, so that no bound on its length is needed.
-fn pages(fetch: impl Fn(usize, &mut [u8]) -> usize) -> Vec<u8> {
-    let mut text = Vec::new();
+fn pages(mut text: Vec<u8>, fetch: impl Fn(usize, &mut [u8]) -> usize) -> Vec<u8> {
     let mut page = vec![0; 65536];
     loop {
         let n = fetch(text.len(), &mut page);
@@ -136,18 +151,26 @@ fn lines_in(said: Listed) -> usize {
     }
 }
 
+// Most listings are no longer; those that are have the rest printed behind it.
+const FIRST: usize = 4096;
+
 /// The listing of a program and a job.
 pub fn list(program: &[u8], job: &[u8]) -> Listing {
     let (w, a) = list_lengths();
-    let (mut work, mut answer) = (vec![0; w], vec![0; a]);
-    let said = list_in(program, job, &mut work, &mut answer);
+    let (mut work, mut answer, mut text) = (vec![0; w], vec![0; a], vec![0; FIRST]);
+    let (said, bytes) = list_print_in(program, job, &mut work, &mut answer, &mut text);
+    if bytes < FIRST {
+        text.truncate(bytes);
+    } else {
+        text = print_list_on(program, job, said, &answer, text);
+    }
     Listing {
         answer: said,
         lines: match lines_in(said) {
             0 => Vec::new(),
             count => cells::lines(&answer, count, &symbols::words(program, job)),
         },
-        text: print_list(program, job, said, &answer),
+        text,
     }
 }
 

@@ -3,14 +3,14 @@
 /// The words of the symbols of two accepted texts, by first standing: the program's, then the job's. In an accepted text a quote stands before a
 /// symbol and nowhere else.
 pub fn words(program: &[u8], job: &[u8]) -> Vec<String> {
-    let mut found: Vec<String> = Vec::new();
+    let mut found: Vec<&[u8]> = Vec::new();
     for text in [program, job] {
         for after in text.split(|&b| b == b'\'').skip(1) {
-            let word: String = after.iter().map(|&b| char::from(b)).take_while(char::is_ascii_alphanumeric).collect();
-            if !found.contains(&word) {
-                found.push(word);
+            let length = after.iter().take_while(|b| b.is_ascii_alphanumeric()).count();
+            if !found.contains(&&after[..length]) {
+                found.push(&after[..length]);
             }
         }
     }
-    found
+    found.into_iter().map(|word| String::from_utf8_lossy(word).into_owned()).collect()
 }

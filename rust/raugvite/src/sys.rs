@@ -74,3 +74,29 @@ entry!(list, raugvite_list);
 entry!(run, raugvite_run);
 text!(print_list, raugvite_print_list);
 text!(print_run, raugvite_print_run);
+
+/// The listing and the beginning of its text: the case of the answer, then its two numbers and the bytes of `out` that are text.
+pub fn list_print(program: &[u8], job: &[u8], work: &mut [u16], answer: &mut [u16], out: &mut [u8]) -> (usize, [usize; 3]) {
+    extern "C" {
+        fn raugvite_list_print(
+            program: *const u8,
+            program_length: usize,
+            job: *const u8,
+            job_length: usize,
+            work: *mut u16,
+            work_length: usize,
+            answer: *mut u16,
+            answer_length: usize,
+            said: *mut usize,
+            said_length: usize,
+            out: *mut u8,
+            out_length: usize,
+        ) -> usize;
+    }
+    let mut said = [0usize; 3];
+    let (p, j) = (program.as_ptr(), job.as_ptr());
+    let (w, a, s, o) = (work.as_mut_ptr(), answer.as_mut_ptr(), said.as_mut_ptr(), out.as_mut_ptr());
+    let (wn, an, sn, on) = (work.len(), answer.len(), said.len(), out.len());
+    let kind = unsafe { raugvite_list_print(p, program.len(), j, job.len(), w, wn, a, an, s, sn, o, on) };
+    (kind, said)
+}

@@ -15,7 +15,7 @@ struct Case {
     job: String,
 }
 
-const ENTRIES: [&str; 4] = ["list", "run", "print_list", "print_run"];
+const ENTRIES: [&str; 5] = ["list", "list_print", "run", "print_list", "print_run"];
 
 const JOB: &str = "(job (in 'A) (out 'A) (neq) (steps 9) (walk 9) (table 9))";
 
@@ -90,6 +90,7 @@ fn call(entry: &str, texts: &Case) {
     let (mut work, mut answer) = (vec![0; 8194], vec![0; 17408]);
     match entry {
         "list" => drop(raugvite::list_in(program, job, &mut work, &mut answer)),
+        "list_print" => drop(raugvite::list_print_in(program, job, &mut work, &mut answer, &mut [0; 64])),
         "run" => drop(raugvite::run_in(program, job, &mut work, &mut answer)),
         "print_list" => drop(raugvite::print_list(program, job, Listed::Whole { lines: 2, count: 2 }, &answer)),
         _ => drop(raugvite::print_run(program, job, raugvite::Ran::Value { steps: 1, length: 1 }, &answer)),

@@ -6,14 +6,14 @@ use Rattle.heap.proofs.compact.relocated.Tie as tie
 enum-known-w : tie.Need-enum-known-w
 enum-known-w c = search needs
 
-mul-key : tie.Need-mul-key
-mul-key c = search needs
+mul-known : tie.Need-mul-known
+mul-known c = search needs
 
-mul-key-2 : tie.Need-mul-key-2
-mul-key-2 c = search needs
+mul-known-2 : tie.Need-mul-known-2
+mul-known-2 c = search needs
 
-element-copy-out-key : tie.Need-element-copy-out-key
-element-copy-out-key c = search needs
+element-copy-out-known : tie.Need-element-copy-out-known
+element-copy-out-known c = search needs
 
 less-requires : tie.Need-less-requires
 less-requires c κs = search needs
@@ -38,9 +38,9 @@ relocated-spec =
     tie.close
     (tie.spec
     enum-known-w
-    mul-key
-    mul-key-2
-    element-copy-out-key
+    mul-known
+    mul-known-2
+    element-copy-out-known
     less-requires
     less-requires-2
     put-entry-requires

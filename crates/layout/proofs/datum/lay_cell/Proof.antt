@@ -8,17 +8,17 @@ use Rattle.layout.proofs.datum.lay_cell.Lts as lts
 returns : tie.Need-returns
 returns c = rw (cell-over (c .if1 .taken))
 
-mul-heap : tie.Need-mul-heap
-mul-heap c = search needs
-
-element-write-heap : tie.Need-element-write-heap
-element-write-heap c = search needs
-
-add-t5 : tie.Need-add-t5
-add-t5 c = search needs
-
 returns-2 : tie.Need-returns-2
-returns-2 c = rw (cell-done (c .if1 .left))
+returns-2 c = rw (cell-done (c .before .before .before .before .if1 .left), c .before .before .put .ensures)
+
+put-requires : tie.Need-put-requires
+put-requires c κs = search needs
+
+add-t8 : tie.Need-add-t8
+add-t8 c = search needs
+
+same-length : tie.Need-same-length
+same-length c = search needs
 
 pub lay-cell-spec : {M : Type 1} → statement M
-lay-cell-spec = tie.close (tie.spec returns mul-heap element-write-heap add-t5 returns-2)
+lay-cell-spec = tie.close (tie.spec returns put-requires add-t8 same-length returns-2)

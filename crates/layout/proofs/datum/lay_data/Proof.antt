@@ -1,5 +1,6 @@
 use mathlib.Core.Path.{_≡_}
 use Prim.Native.Nat.{_-_}
+use lib.ListN.{length}
 use Rattle.layout.specs.Data.{dataWritten}
 use Rattle.layout.proofs.LayoutTurns.{data-turn, data-end}
 use borrow.Author.Needs.{needs}
@@ -11,7 +12,7 @@ use Rattle.layout.proofs.datum.lay_datum.Reads as lay-datum-reads
 
 abbrev Inv-loop : tie.InvT-loop
 Inv-loop jmarks jnums from to heap₀ at k₀ i₀ heap k i =
-    dataWritten jmarks jnums (to - from) from at heap₀ ≡ dataWritten jmarks jnums (to - i) i k heap
+    (dataWritten jmarks jnums (to - from) from at heap₀ ≡ dataWritten jmarks jnums (to - i) i k heap) × (length heap ≡ length heap₀)
 
 abbrev μ-loop : tie.MeasureT-loop
 μ-loop jmarks jnums from to heap₀ at k₀ i₀ heap k i = to - i
@@ -32,16 +33,22 @@ loop-less : tie.Need-loop-less Inv-loop μ-loop
 loop-less c = search needs
 
 loop-again : tie.Need-loop-again Inv-loop μ-loop
-loop-again c = rw (c .before .before .before .before .before .before .loop .inv, data-turn (c .before .before .before .before .before .loop-test .taken), ← (c .before .before .before .lay-datum .ensures), c .before .w .given .1)
+loop-again c = (rw (c .before .before .before .before .before .before .before .before .loop .inv .0, data-turn (c .before .before .before .before .before .before .before .loop-test .taken), ← (c .before .before .before .before .before .lay-datum .ensures), c .before .w .given .1), search needs)
 
 enum-told : tie.Need-enum-told Inv-loop μ-loop
 enum-told c = search needs
 
+same-length : tie.Need-same-length Inv-loop μ-loop
+same-length c = search needs
+
 returns : tie.Need-returns Inv-loop μ-loop
-returns c = rw (c .before .before .before .before .before .loop .inv, data-turn (c .before .before .before .before .loop-test .taken), ← (c .before .before .lay-datum .ensures), c .enum-told .given .1)
+returns c = rw (c .before .before .before .before .before .before .before .loop .inv .0, data-turn (c .before .before .before .before .before .before .loop-test .taken), ← (c .before .before .before .before .lay-datum .ensures), c .enum-told .given .1)
+
+same-length-2 : tie.Need-same-length-2 Inv-loop μ-loop
+same-length-2 c = search needs
 
 returns-2 : tie.Need-returns-2 Inv-loop μ-loop
-returns-2 c = rw (c .before .loop .inv, data-end (c .loop-test .left))
+returns-2 c = rw (c .before .loop .inv .0, data-end (c .loop-test .left))
 
 pub lay-data-spec : {M : Type 1} → statement M
 lay-data-spec =
@@ -56,5 +63,7 @@ lay-data-spec =
     loop-less
     loop-again
     enum-told
+    same-length
     returns
+    same-length-2
     returns-2)

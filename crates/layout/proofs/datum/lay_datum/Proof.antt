@@ -20,7 +20,10 @@ lay-cell-requires c κs = search needs
 
 returns-2 : tie.Need-returns-2
 unfolding datumWritten
-returns-2 c = rw (← (c .before .before .before .datum-cell .ensures), ne-eqb _ _ (c .before .before .if1 .left), ← (c .lay-cell .ensures))
+returns-2 c = rw (← (c .before .before .before .before .before .datum-cell .ensures), ne-eqb _ _ (c .before .before .before .before .if1 .left), ← (c .before .before .lay-cell .ensures))
+
+same-length : tie.Need-same-length
+same-length c = search needs
 
 pub lay-datum-spec : {M : Type 1} → statement M
-lay-datum-spec = tie.close (tie.spec datum-cell-requires returns lay-cell-requires returns-2)
+lay-datum-spec = tie.close (tie.spec datum-cell-requires returns lay-cell-requires same-length returns-2)

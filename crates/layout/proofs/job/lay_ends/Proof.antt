@@ -25,20 +25,17 @@ enum-told c = search needs
 
 returns : tie.Need-returns
 unfolding endsLaid
-returns c = rw (← (c .before .before .before .before .before .before .lay-output .ensures), c .before .before .before .before .b .given .1, ← (c .before .lay-sides .ensures), ← (c .parts-of .ensures))
+returns c = rw (← (c .before .before .before .before .before .before .before .before .before .before .lay-output .ensures), c .before .before .before .before .before .before .b .given .1, ← (c .before .before .before .lay-sides .ensures), ← (c .parts-of .ensures))
 
 returns-2 : tie.Need-returns-2
 unfolding endsLaid
-returns-2 c = rw (← (c .before .before .lay-output .ensures), c .enum-told .given .1)
+returns-2 c = rw (← (c .before .before .before .before .lay-output .ensures), c .enum-told .given .1)
+
+same-length : tie.Need-same-length
+same-length c = search needs
+
+same-length-2 : tie.Need-same-length-2
+same-length-2 c = search needs
 
 pub lay-ends-spec : {M : Type 1} → statement M
-lay-ends-spec =
-    tie.close
-    (tie.spec
-    lay-output-requires
-    enum-known-b
-    lay-sides-requires
-    parts-of-requires
-    enum-told
-    returns
-    returns-2)
+lay-ends-spec = tie.close (tie.spec lay-output-requires enum-known-b lay-sides-requires parts-of-requires enum-told same-length returns same-length-2 returns-2)

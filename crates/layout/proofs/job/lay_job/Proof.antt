@@ -21,13 +21,17 @@ enum-told c = search needs
 
 returns : tie.Need-returns
 unfolding jobLaid
-returns c = rw (← (c .before .before .before .before .before .lay-data .ensures), c .before .before .before .a .given .1, ← (c .lay-ends .ensures))
+returns c = rw (← (c .before .before .before .before .before .before .before .before .before .lay-data .ensures), c .before .before .before .before .before .a .given .1, ← (c .before .before .lay-ends .ensures))
 
 returns-2 : tie.Need-returns-2
 unfolding jobLaid
-returns-2 c = rw (← (c .before .before .lay-data .ensures), c .enum-told .given .1)
+returns-2 c = rw (← (c .before .before .before .before .lay-data .ensures), c .enum-told .given .1)
+
+same-length : tie.Need-same-length
+same-length c = search needs
+
+same-length-2 : tie.Need-same-length-2
+same-length-2 c = search needs
 
 pub lay-job-spec : {M : Type 1} → statement M
-lay-job-spec =
-    tie.close
-    (tie.spec lay-data-requires enum-known-a lay-ends-requires enum-told returns returns-2)
+lay-job-spec = tie.close (tie.spec lay-data-requires enum-known-a lay-ends-requires enum-told same-length returns same-length-2 returns-2)

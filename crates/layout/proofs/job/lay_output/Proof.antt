@@ -12,14 +12,20 @@ lay-cell-requires c κs = search needs
 
 returns : tie.Need-returns
 unfolding outputLaid
-returns c = rw (c .before .before .if1 .taken, ← (c .lay-cell .ensures))
+returns c = rw (c .before .before .before .before .if1 .taken, ← (c .before .before .lay-cell .ensures))
 
 lay-data-requires : tie.Need-lay-data-requires
 lay-data-requires c κs = search needs
 
 returns-2 : tie.Need-returns-2
 unfolding outputLaid
-returns-2 c = rw (c .before .before .if1 .left, ← (c .lay-data .ensures))
+returns-2 c = rw (c .before .before .before .before .if1 .left, ← (c .before .before .lay-data .ensures))
+
+same-length : tie.Need-same-length
+same-length c = search needs
+
+same-length-2 : tie.Need-same-length-2
+same-length-2 c = search needs
 
 pub lay-output-spec : {M : Type 1} → statement M
-lay-output-spec = tie.close (tie.spec lay-cell-requires returns lay-data-requires returns-2)
+lay-output-spec = tie.close (tie.spec lay-cell-requires same-length returns lay-data-requires same-length-2 returns-2)

@@ -15,7 +15,10 @@ lay-data-requires c κs = search needs
 
 returns-2 : tie.Need-returns-2
 unfolding sidesLaid
-returns-2 c = rw (c .before .before .if1 .left, ← (c .lay-data .ensures))
+returns-2 c = rw (c .before .before .before .before .if1 .left, ← (c .before .before .lay-data .ensures))
+
+same-length : tie.Need-same-length
+same-length c = search needs
 
 pub lay-sides-spec : {M : Type 1} → statement M
-lay-sides-spec = tie.close (tie.spec returns lay-data-requires returns-2)
+lay-sides-spec = tie.close (tie.spec returns lay-data-requires same-length returns-2)

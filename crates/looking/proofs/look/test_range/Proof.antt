@@ -18,21 +18,21 @@ mul-x c = search needs
 element-copy-out-x : tie.Need-element-copy-out-x
 element-copy-out-x c = search needs
 
-add-tree-end : tie.Need-add-tree-end
-add-tree-end c = search needs
+add-head-end : tie.Need-add-head-end
+add-head-end c = search needs
 
-tree-end-requires : tie.Need-tree-end-requires
-tree-end-requires c κs = search needs
+head-end-requires : tie.Need-head-end-requires
+head-end-requires c κs = search needs
 
-add-t14 : tie.Need-add-t14
-add-t14 c = search needs
+add-t13 : tie.Need-add-t13
+add-t13 c = search needs
 
 least-requires : tie.Need-least-requires
 least-requires c κs = search needs
 
 returns-2 : tie.Need-returns-2
 unfolding testedAt
-returns-2 c = rw (le-ltb _ _ (c .before .before .before .before .before .if1 .left), eq-eqb _ _ (c .before .before .before .if2 .taken), ← (c .before .tree-end .ensures), ← (c .least .ensures))
+returns-2 c = rw (le-ltb _ _ (c .before .before .before .before .if1 .left), eq-eqb _ _ (c .before .before .if2 .taken), ← (c .before .head-end .ensures), ← (c .least .ensures))
 
 returns-3 : tie.Need-returns-3
 unfolding testedAt
@@ -49,9 +49,9 @@ test-range-spec =
     returns
     mul-x
     element-copy-out-x
-    add-tree-end
-    tree-end-requires
-    add-t14
+    add-head-end
+    head-end-requires
+    add-t13
     least-requires
     returns-2
     returns-3

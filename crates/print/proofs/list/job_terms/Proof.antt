@@ -26,11 +26,17 @@ enum-told-3 c = search needs
 enum-told-4 : tie.Need-enum-told-4
 enum-told-4 c = search needs
 
+same-length : tie.Need-same-length
+same-length c = search needs
+
 returns : tie.Need-returns
-returns c = rw (c .before .before .before .before .before .before .both .given .1, ← (c .before .before .before .lay-job .ensures), c .before .laid .given .1)
+returns c = rw (c .before .before .before .before .before .before .before .before .both .given .1, ← (c .before .before .before .before .before .lay-job .ensures), c .before .laid .given .1)
+
+same-length-2 : tie.Need-same-length-2
+same-length-2 c = search needs
 
 returns-2 : tie.Need-returns-2
-returns-2 c = rw (c .before .before .before .before .before .both .given .1, ← (c .before .before .lay-job .ensures), c .enum-told .given .1)
+returns-2 c = rw (c .before .before .before .before .before .before .before .both .given .1, ← (c .before .before .before .before .lay-job .ensures), c .enum-told .given .1)
 
 returns-3 : tie.Need-returns-3
 returns-3 c = rw (c .enum-told2 .given .1)
@@ -52,7 +58,9 @@ job-terms-spec =
     enum-told-2
     enum-told-3
     enum-told-4
+    same-length
     returns
+    same-length-2
     returns-2
     returns-3
     returns-4

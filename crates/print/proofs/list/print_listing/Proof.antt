@@ -18,6 +18,9 @@ use Rattle.window.proofs.sink.clear.Reads as clear-reads
 use Rattle.window.proofs.sink.opened.Reads as opened-reads
 use Rattle.window.proofs.sink.written.Reads as written-reads
 
+cast-front : tie.Need-cast-front
+cast-front c = search needs
+
 mul-front : tie.Need-mul-front
 mul-front c = search needs
 
@@ -48,14 +51,15 @@ same-length c = search needs
 returns : tie.Need-returns
 unfolding listingText
 returns c =
-    let a = c .before .before .before .before .before .before .before .before .before .before .before .before .before .before .before .before .before .before .before .before .before .before .args in
-    let text = ap₂ (λ (t v : List ℕ). linesText (symbolText (a .program .now) (a .job .now) t) v (a .lines) 0 (a .answer .now)) (c .before .before .before .before .before .before .before .before .before .before .before .before .before .before .before .before .front .ensures) (c .before .before .before .before .before .front2 .ensures) in
-    printed _ _ _ _ _ _ _ _ (c .before .before .before .before .before .before .before .before .before .before .before .opened .ensures) (c .before .before .before .before .before .before .before .before .before .before .before .before .before .before .clear .ensures) (behind _ _ _ (c .before .before .before .before .before .before .before .before .before .put-first .ensures) ((c .before .before .before .put-lines .ensures) ∙ ap (puts _) text)) (c .written .ensures)
+    let a = c .before .before .before .before .before .before .before .before .before .before .before .before .before .before .before .before .before .before .before .before .before .before .before .args in
+    let text = ap₂ (λ (t v : List ℕ). linesText (symbolText (a .program .now) (a .job .now) t) v (a .first .lines) 0 (a .answer .now)) (c .before .before .before .before .before .before .before .before .before .before .before .before .before .before .before .front .ensures) (c .before .before .before .before .before .front2 .ensures) in
+    printed _ _ _ _ _ _ _ _ (c .before .before .before .before .before .before .before .before .before .before .opened .ensures) (c .before .before .before .before .before .before .before .before .before .before .before .before .before .clear .ensures) (behind _ _ _ (c .before .before .before .before .before .before .before .before .put-first .ensures) ((c .before .before .before .put-lines .ensures) ∙ ap (puts _) text)) (c .written .ensures)
 
 pub print-listing-spec : {M : Type 1} → statement M
 print-listing-spec =
     tie.close
     (tie.spec
+    cast-front
     mul-front
     front-requires
     clear-requires

@@ -1,4 +1,4 @@
-use Rattle.print.proofs.ListTurns.{same-text, named-terms}
+use Rattle.print.proofs.ListTurns.{same-text, named-read}
 use borrow.Author.Needs.{needs}
 use Rattle.print.proofs.list.print_named.Statement.{statement}
 use Rattle.print.proofs.list.print_named.Tie as tie
@@ -41,11 +41,17 @@ slice-aggregate-job-terms c = search needs
 slice-aggregate-job-terms-2 : tie.Need-slice-aggregate-job-terms-2
 slice-aggregate-job-terms-2 c = search needs
 
+slice-aggregate-job-terms-3 : tie.Need-slice-aggregate-job-terms-3
+slice-aggregate-job-terms-3 c = search needs
+
 job-terms-requires : tie.Need-job-terms-requires
 job-terms-requires c κs = search needs
 
 slice-aggregate-print-listing : tie.Need-slice-aggregate-print-listing
 slice-aggregate-print-listing c = search needs
+
+slice-aggregate-print-listing-2 : tie.Need-slice-aggregate-print-listing-2
+slice-aggregate-print-listing-2 c = search needs
 
 print-listing-requires : tie.Need-print-listing-requires
 print-listing-requires c κs = search needs
@@ -54,7 +60,7 @@ same-length : tie.Need-same-length
 same-length c = search needs
 
 returns : tie.Need-returns
-returns c = let e = c .before .before .before .before .before .before .before .before .before .before .before .before .before .before .before .before .before .before .read-both .ensures in same-text _ _ (named-terms _ _ _ _ _ _ (e .0) (e .5) (e .6) (e .7) (c .before .before .before .before .before .before .job-terms .ensures)) (c .before .before .print-listing .ensures)
+returns c = let e = c .before .before .before .before .before .before .before .before .before .before .before .before .before .before .before .before .before .before .before .read-both .ensures in same-text _ _ (named-read _ _ _ _ _ _ (e .0) (e .5) (e .6) (e .7) (c .before .before .before .before .before .before .before .job-terms .ensures)) (c .before .before .print-listing .ensures)
 
 pub print-named-spec : {M : Type 1} → statement M
 print-named-spec =
@@ -71,8 +77,10 @@ print-named-spec =
     read-both-requires
     slice-aggregate-job-terms
     slice-aggregate-job-terms-2
+    slice-aggregate-job-terms-3
     job-terms-requires
     slice-aggregate-print-listing
+    slice-aggregate-print-listing-2
     print-listing-requires
     same-length
     returns)

@@ -1,4 +1,4 @@
--- `filled_size` counts x, and each is so many cells.
+-- `filled_size`: each x is so many cells.
 use native.Mathlib.Omega.{arith}
 use Rattle.runs.proofs.RunLaws.{size-end, count-fits, size-by-count, product-least}
 use borrow.Author.Needs.{needs}
@@ -8,39 +8,30 @@ use Rattle.runs.proofs.run.filled_size.Tie as tie
 returns : tie.Need-returns
 returns c = let a = c .before .args in rw (size-end (a .x) (a .size) (a .from) (a .to) (a .heap .now) (omega arith))
 
-occurrences-requires : tie.Need-occurrences-requires
-occurrences-requires c κs = search needs
-
-cast-n : tie.Need-cast-n
-cast-n c = search needs
-
 mul-result : tie.Need-mul-result
 mul-result c =
-    let a = c .before .before .args in
-    let n = c .occurrences .result in
-    let l = count-fits (a .x) (a .size) (a .from) (a .to) (a .heap .now) n (c .occurrences .ensures) in
-    omega (arith, l, product-least n (a .size) (omega arith))
+    let a = c .before .args in
+    let l = count-fits (a .x) (a .size) (a .from) (a .to) (a .heap .now) (a .n) (c .before .pre .2) in
+    omega (arith, l, product-least (a .n) (a .size) (omega arith))
 
 add-result : tie.Need-add-result
 add-result c =
-    let a = c .before .before .args in
-    let n = c .occurrences .result in
-    let l = count-fits (a .x) (a .size) (a .from) (a .to) (a .heap .now) n (c .occurrences .ensures) in
-    omega (arith, l, product-least n (a .size) (omega arith))
+    let a = c .before .args in
+    let l = count-fits (a .x) (a .size) (a .from) (a .to) (a .heap .now) (a .n) (c .before .pre .2) in
+    omega (arith, l, product-least (a .n) (a .size) (omega arith))
 
 sub-result : tie.Need-sub-result
 sub-result c =
-    let a = c .before .before .args in
-    let n = c .occurrences .result in
-    let l = count-fits (a .x) (a .size) (a .from) (a .to) (a .heap .now) n (c .occurrences .ensures) in
-    omega (arith, l, product-least n (a .size) (omega arith))
+    let a = c .before .args in
+    let l = count-fits (a .x) (a .size) (a .from) (a .to) (a .heap .now) (a .n) (c .before .pre .2) in
+    omega (arith, l, product-least (a .n) (a .size) (omega arith))
 
 returns-2 : tie.Need-returns-2
 returns-2 c =
-    let a = c .before .before .args in
-    size-by-count (a .x) (a .size) (a .from) (a .to) (a .heap .now) (c .occurrences .result) (c .occurrences .ensures)
+    let a = c .before .args in
+    size-by-count (a .x) (a .size) (a .from) (a .to) (a .heap .now) (a .n) (c .before .pre .2)
 
 pub filled-size-spec : {M : Type 1} → statement M
 filled-size-spec =
     tie.close
-    (tie.spec returns occurrences-requires cast-n mul-result add-result sub-result returns-2)
+    (tie.spec returns mul-result add-result sub-result returns-2)

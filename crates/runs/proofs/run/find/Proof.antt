@@ -3,7 +3,7 @@ use Prim.Native.Nat.{_-_}
 use mathlib.Core.Path.{_≡_, refl, _∙_, sym as inv}
 use native.Mathlib.Omega.{arith}
 use Rattle.runs.specs.Runs.{firstIn}
-use Rattle.runs.proofs.RunLaws.{lacks-eight, first-here, first-later, first-none}
+use Rattle.runs.proofs.RunLaws.{passes, first-here, first-later, first-none}
 use borrow.Author.Needs.{needs}
 use Rattle.runs.proofs.run.find.Statement.{statement}
 use Rattle.runs.proofs.run.find.Tie as tie
@@ -17,28 +17,28 @@ abbrev μ-loop : tie.MeasureT-loop
 loop-holds : tie.Need-loop-holds Inv-loop μ-loop
 loop-holds c = refl
 
-lacks-eight-requires : tie.Need-lacks-eight-requires Inv-loop μ-loop
-lacks-eight-requires c κs = search needs
+passed-requires : tie.Need-passed-requires Inv-loop μ-loop
+passed-requires c κs = search needs
 
 add-i : tie.Need-add-i Inv-loop μ-loop
 add-i c =
     let l = c .before .before .before in
     let a = l .before .args in
-    let e = lacks-eight (a .x) (l .loop .i) (a .to) (a .heap .now) (inv (c .before .lacks-eight .ensures) ∙ c .if1 .taken) in
+    let e = passes (a .x) (l .loop .i) (a .to) (c .before .passed .result) (a .heap .now) (omega arith) (c .before .passed .ensures) (c .if1 .taken) in
     omega (arith, e .0)
 
 loop-less : tie.Need-loop-less Inv-loop μ-loop
 loop-less c =
     let l = c .before .before .before in
     let a = l .before .args in
-    let e = lacks-eight (a .x) (l .loop .i) (a .to) (a .heap .now) (inv (c .before .lacks-eight .ensures) ∙ c .if1 .taken) in
+    let e = passes (a .x) (l .loop .i) (a .to) (c .before .passed .result) (a .heap .now) (omega arith) (c .before .passed .ensures) (c .if1 .taken) in
     omega (arith, e .0)
 
 loop-again : tie.Need-loop-again Inv-loop μ-loop
 loop-again c =
     let l = c .before .before .before in
     let a = l .before .args in
-    let e = lacks-eight (a .x) (l .loop .i) (a .to) (a .heap .now) (inv (c .before .lacks-eight .ensures) ∙ c .if1 .taken) in
+    let e = passes (a .x) (l .loop .i) (a .to) (c .before .passed .result) (a .heap .now) (omega arith) (c .before .passed .ensures) (c .if1 .taken) in
     l .loop .inv ∙ e .1
 
 mul-if2 : tie.Need-mul-if2 Inv-loop μ-loop
@@ -78,7 +78,7 @@ find-spec =
     Inv-loop
     μ-loop
     loop-holds
-    lacks-eight-requires
+    passed-requires
     add-i
     loop-less
     loop-again

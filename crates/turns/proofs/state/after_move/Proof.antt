@@ -1,12 +1,6 @@
 use borrow.Author.Needs.{needs}
 use Rattle.turns.proofs.state.after_move.Statement.{statement}
 use Rattle.turns.proofs.state.after_move.Tie as tie
-use Rattle.turns.proofs.state.after_move.Reads as reads
-use Rattle.turns.proofs.state.after_move.Lts as lts
-use Rattle.replay.proofs.position.moved_from.Reads as moved-from-reads
-use Rattle.turns.proofs.found.count.Reads as count-reads
-use Rattle.turns.proofs.found.stopped.Reads as stopped-reads
-use Rattle.turns.proofs.state.state_at.Reads as state-at-reads
 
 count-requires : tie.Need-count-requires
 count-requires c κs = search needs
@@ -23,23 +17,17 @@ state-at-requires c κs = search needs
 enum-told : tie.Need-enum-told
 enum-told c = search needs
 
-stopped-requires : tie.Need-stopped-requires
-stopped-requires c κs = search needs
-
 enum-told-2 : tie.Need-enum-told-2
 enum-told-2 c = search needs
-
-stopped-requires-2 : tie.Need-stopped-requires-2
-stopped-requires-2 c κs = search needs
 
 returns : tie.Need-returns
 returns c = rw (c .before .before .before .m .given .1, ← (c .before .before .before .before .before .count .ensures), ← (c .before .moved-from .ensures), ← (c .state-at .ensures))
 
 returns-2 : tie.Need-returns-2
-returns-2 c = rw (c .before .enum-told .given .1, ← (c .before .before .before .count .ensures), ← (c .stopped .ensures))
+returns-2 c = rw (c .enum-told .given .1, ← (c .before .before .count .ensures))
 
 returns-3 : tie.Need-returns-3
-returns-3 c = rw (c .before .enum-told2 .given .1, ← (c .before .before .before .count .ensures), ← (c .stopped2 .ensures))
+returns-3 c = rw (c .enum-told2 .given .1, ← (c .before .before .count .ensures))
 
 pub after-move-spec : {M : Type 1} → statement M
 after-move-spec =
@@ -50,9 +38,7 @@ after-move-spec =
     moved-from-requires
     state-at-requires
     enum-told
-    stopped-requires
     enum-told-2
-    stopped-requires-2
     returns
     returns-2
     returns-3)

@@ -31,6 +31,15 @@ mul-to-2 c = search needs
 element-copy-out-to : tie.Need-element-copy-out-to
 element-copy-out-to c = search needs
 
+mul-known : tie.Need-mul-known
+mul-known c = search needs
+
+mul-known-2 : tie.Need-mul-known-2
+mul-known-2 c = search needs
+
+element-copy-out-known : tie.Need-element-copy-out-known
+element-copy-out-known c = search needs
+
 wide-requires : tie.Need-wide-requires
 wide-requires c κs = search needs
 
@@ -39,7 +48,7 @@ wide-requires-2 c κs = search needs
 
 returns : tie.Need-returns
 unfolding entryAt
-returns c = rw (lt-ltb _ _ (c .before .before .before .before .if1 .taken), c .before .wide .ensures, c .wide2 .ensures)
+returns c = rw (lt-ltb _ _ (c .before .before .before .before .before .if1 .taken), c .before .wide .ensures, c .wide2 .ensures)
 
 returns-2 : tie.Need-returns-2
 unfolding entryAt
@@ -57,6 +66,9 @@ entry-at-spec =
     add-to
     mul-to-2
     element-copy-out-to
+    mul-known
+    mul-known-2
+    element-copy-out-known
     wide-requires
     wide-requires-2
     returns

@@ -1,8 +1,7 @@
+-- `made` goes by what was written.
 use borrow.Author.Needs.{needs}
 use Rattle.values.proofs.value.made.Statement.{statement}
 use Rattle.values.proofs.value.made.Tie as tie
-use Rattle.values.proofs.value.made.Reads as reads
-use Rattle.values.proofs.value.made.Lts as lts
 
 enum-known-w : tie.Need-enum-known-w
 enum-known-w c = search needs
@@ -14,7 +13,7 @@ returns : tie.Need-returns
 returns c = rw (c .before .w .given .1)
 
 returns-2 : tie.Need-returns-2
-returns-2 c = rw (c .enum-told .given .1)
+returns-2 c = search needs
 
 pub made-spec : {M : Type 1} → statement M
 made-spec = tie.close (tie.spec enum-known-w enum-told returns returns-2)

@@ -24,20 +24,19 @@ returns-2 : tie.Need-returns-2
 unfolding valueAt
 returns-2 c = rw (← (c .before .before .before .before .link-at .ensures), ne-eqb _ _ (c .before .before .before .if1 .left), ← (c .before .before .constant-at .ensures), lt-ltb _ _ (c .if2 .taken))
 
-cast-push-tokens : tie.Need-cast-push-tokens
-cast-push-tokens c = search needs
+wide-requires : tie.Need-wide-requires
+wide-requires c κs = search needs
 
-push-tokens-requires : tie.Need-push-tokens-requires
-push-tokens-requires c κs = search needs
-
-made-requires : tie.Need-made-requires
-made-requires c κs = search needs
+make-requires : tie.Need-make-requires
+make-requires c κs = c .wide .ensures .1
 
 returns-3 : tie.Need-returns-3
 unfolding valueAt
-returns-3 c = rw (← (c .before .before .before .before .before .before .before .link-at .ensures), ne-eqb _ _ (c .before .before .before .before .before .before .if1 .left), ← (c .before .before .before .before .before .constant-at .ensures), le-ltb _ _ (c .before .before .before .if2 .left), ← (c .before .push-tokens .ensures), ← (c .made .ensures))
+returns-3 c =
+    let k = c .before .before .before .before .before in
+    rw (← (k .before .before .link-at .ensures), ne-eqb _ _ (k .before .if1 .left), ← (k .constant-at .ensures), le-ltb _ _ (c .before .before .before .if2 .left), ← (c .before .wide .ensures .0), ← (c .make .ensures))
 
 pub value-spec : {M : Type 1} → statement M
 value-spec =
     tie.close
-    (tie.spec link-at-requires place-at-requires entry-at-requires returns constant-at-requires returns-2 cast-push-tokens push-tokens-requires made-requires returns-3)
+    (tie.spec link-at-requires place-at-requires entry-at-requires returns constant-at-requires returns-2 wide-requires make-requires returns-3)

@@ -1,5 +1,4 @@
--- `make_call` does what `madeCall` does.
-use Rattle.walk.specs.Walking.{madeCall}
+use Rattle.walk.specs.Making.{madeCall}
 use borrow.Author.Needs.{needs}
 use Rattle.walk.proofs.make.make_call.Statement.{statement}
 use Rattle.walk.proofs.make.make_call.Tie as tie
@@ -7,12 +6,9 @@ use Rattle.walk.proofs.make.make_call.Tie as tie
 is-spent-requires : tie.Need-is-spent-requires
 is-spent-requires c κs = search needs
 
-stopped-requires : tie.Need-stopped-requires
-stopped-requires c κs = search needs
-
 returns : tie.Need-returns
 unfolding madeCall
-returns c = rw (← (c .before .before .is-spent .ensures), c .before .if1 .taken, ← (c .stopped .ensures))
+returns c = rw (← (c .before .is-spent .ensures), c .if1 .taken)
 
 names-from-requires : tie.Need-names-from-requires
 names-from-requires c κs = search needs
@@ -35,7 +31,6 @@ make-call-spec =
     tie.close
     (tie.spec
     is-spent-requires
-    stopped-requires
     returns
     names-from-requires
     call-requires

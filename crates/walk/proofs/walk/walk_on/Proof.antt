@@ -5,11 +5,6 @@ use Rattle.walk.proofs.WalkTurns.{walk-again, walk-end}
 use borrow.Author.Needs.{needs}
 use Rattle.walk.proofs.walk.walk_on.Statement.{statement}
 use Rattle.walk.proofs.walk.walk_on.Tie as tie
-use Rattle.walk.proofs.walk.walk_on.Reads as reads
-use Rattle.walk.proofs.walk.walk_on.Lts as lts
-use Rattle.sets.proofs.cell.least.Reads as least-reads
-use Rattle.turns.proofs.found.stopped.Reads as stopped-reads
-use Rattle.walk.proofs.walk.walk_turn.Reads as walk-turn-reads
 
 abbrev Inv-loop : tie.InvT-loop
 Inv-loop code heap₀ frame₀ q₀ path₀ saved₀ answer₀ b s₀ left₀ heap frame q path saved answer s left =
@@ -36,13 +31,14 @@ enum-known-t c = search needs
 enum-known-t-2 : tie.Need-enum-known-t-2 Inv-loop μ-loop
 enum-known-t-2 c = search needs
 
+stopped-requires : tie.Need-stopped-requires Inv-loop μ-loop
+stopped-requires c κs = search needs
+
 same-length : tie.Need-same-length Inv-loop μ-loop
-same-length c = c .before .before .before .before .answer .given ∙ c .before .before .before .before .before .before .before .before .before .before .before .before .before .loop .inv .1
+same-length c = c .before .before .before .before .before .answer .given ∙ c .before .before .before .before .before .before .before .before .before .before .before .before .before .before .loop .inv .1
 
 returns : tie.Need-returns Inv-loop μ-loop
-returns c =
-    let t = c .before .before .before .before .before .before .before .before .before .before .before .before in
-    rw (← (t .before .before .least .ensures), t .before .loop .inv .0, walk-again (t .loop-test .taken), ← (c .before .before .before .before .before .walk-turn .ensures), c .before .t2 .given .1)
+returns c = rw (← (c .before .before .before .before .before .before .before .before .before .before .before .before .before .before .before .least .ensures), c .before .before .before .before .before .before .before .before .before .before .before .before .before .before .loop .inv .0, walk-again (c .before .before .before .before .before .before .before .before .before .before .before .before .before .loop-test .taken), ← (c .before .before .before .before .before .before .walk-turn .ensures), c .before .before .t2 .given .1, ← (c .stopped .ensures))
 
 sub-left : tie.Need-sub-left Inv-loop μ-loop
 sub-left c = search needs
@@ -51,20 +47,16 @@ loop-less : tie.Need-loop-less Inv-loop μ-loop
 loop-less c = search needs
 
 loop-again : tie.Need-loop-again Inv-loop μ-loop
-loop-again c =
-    let t = c .before .before .before .before .before .before .before .before .before .before .before .before in
-    (rw (t .before .loop .inv .0, walk-again (t .loop-test .taken), ← (c .before .before .before .before .before .walk-turn .ensures), c .before .t .given .1), c .before .before .before .before .answer .given ∙ t .before .loop .inv .1)
+loop-again c = (rw (c .before .before .before .before .before .before .before .before .before .before .before .before .before .loop .inv .0, walk-again (c .before .before .before .before .before .before .before .before .before .before .before .before .loop-test .taken), ← (c .before .before .before .before .before .walk-turn .ensures), c .before .t .given .1), c .before .before .before .before .answer .given ∙ c .before .before .before .before .before .before .before .before .before .before .before .before .before .loop .inv .1)
 
-stopped-requires : tie.Need-stopped-requires Inv-loop μ-loop
-stopped-requires c κs = search needs
+stopped-requires-2 : tie.Need-stopped-requires-2 Inv-loop μ-loop
+stopped-requires-2 c κs = search needs
 
 same-length-2 : tie.Need-same-length-2 Inv-loop μ-loop
 same-length-2 c = c .before .before .loop .inv .1
 
 returns-2 : tie.Need-returns-2 Inv-loop μ-loop
-returns-2 c =
-    let t = c .before in
-    rw (← (t .before .before .least .ensures), t .before .loop .inv .0, walk-end (t .loop-test .left), ← (c .stopped .ensures))
+returns-2 c = rw (← (c .before .before .before .least .ensures), c .before .before .loop .inv .0, walk-end (c .before .loop-test .left), ← (c .stopped2 .ensures))
 
 pub walk-on-spec : {M : Type 1} → statement M
 walk-on-spec =
@@ -78,11 +70,12 @@ walk-on-spec =
     walk-turn-requires
     enum-known-t
     enum-known-t-2
+    stopped-requires
     same-length
     returns
     sub-left
     loop-less
     loop-again
-    stopped-requires
+    stopped-requires-2
     same-length-2
     returns-2)
