@@ -2,7 +2,7 @@
  *
  * Each array is a pointer and a number of elements. No pointer may be null, also where its number is 0, no array may overlap another
  * that is written, and each must have its alignment: that is all a caller has to see to. Whatever the arrays hold, every function ends and touches
- * nothing outside them. A call takes up to 400 KB of stack. docs/STORAGE.md says how lines and values stand in `answer`; docs/CONTRACTS.md what
+ * nothing outside them. A call takes up to 330 KB of stack. docs/STORAGE.md says how lines and values stand in `answer`; docs/CONTRACTS.md what
  * is proved.
  */
 #ifndef RAUGVITE_H

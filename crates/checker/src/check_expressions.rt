@@ -18,6 +18,8 @@ use lexer::keys::ENAME;
 use lexer::keys::OPEN;
 use lexer::keys::SYMBOL;
 ghost use mathlib.Core.Path.{_≡_};
+ghost use mathlib.Core.Bool.{true};
+ghost use Rattle.checker.specs.declared.check.Verdict.the-variants.{Fine};
 ghost use Rattle.checker.specs.CheckStored.{sameName, isNamed, leafAt, expAt, pairAt, atomicAt, eaAt, argAt, argsAt};
 
 // "`e.x` and `a.x` are two variables."
@@ -191,27 +193,24 @@ fn arg(
     exp(marks, nums, ats, n, room, cells, used, i)
 }
 
-// The arguments from `i` on, the parameters from `p` on: `fits` is whether they are as many so far, `uses` the first fault so far.
+// The arguments from `i` on, the parameters from `p` on; none takes less than a token, so that n turns are enough.
 pub fn args(
     marks: &[u16],
     nums: &[u16],
     ats: &[u16],
     n: usize,
-    fuel: usize,
     room: usize,
     cells: &[usize],
     used: usize,
     p: usize,
-    fits: bool,
-    uses: Verdict,
     i: usize,
 ) -> Args
-    ensures { λ r. ⌜ r ≡ argsAt (now (marks .entry)) (now (nums .entry)) (now (ats .entry)) n fuel room (now (cells .entry)) used p fits uses i ⌝ }
+    ensures { λ r. ⌜ r ≡ argsAt (now (marks .entry)) (now (nums .entry)) (now (ats .entry)) n n room (now (cells .entry)) used p true Fine i ⌝ }
 {
-    let mut left = fuel;
+    let mut left = n;
     let mut param = p;
-    let mut as_many = fits;
-    let mut fault = uses;
+    let mut as_many = true;
+    let mut fault = Verdict::Fine;
     let mut at = i;
     while 0 < left {
         let closes = key(marks, n, param) == CLOSE_LIST;

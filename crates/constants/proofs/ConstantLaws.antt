@@ -152,6 +152,7 @@ pub record Laying (used : ℕ) (code₀ h₀ : List ℕ) (i k : ℕ) (code h : L
   pub grown : used ≤ k
   pub most : k ≤ used + 4097
   pub held : (j : ℕ) → j < i → constantAt code j .from < constantAt code j .to → ConstantHeld code h k j
+  pub rest : (j : ℕ) → i ≤ j → constantAt code j ≡ constantAt code₀ j
 
 -- what makes a constant
 record Makes (code : List ℕ) (i : ℕ) (s : Laid) (limit : ℕ) : Type 0 where
@@ -246,6 +247,7 @@ module _ (s : Laid) {used : ℕ} {code₀ h₀ : List ℕ} {i : ℕ} {code h : L
       grown = omega (arith, y .grown);
       most = fits .1;
       held = λ j l r. pick j l r (eqb j i) refl;
+      rest = λ j l. entered-other i (s .used) end code j (λ e. omega arith) ∙ y .rest j (omega arith);
     }
       where
         pick : (j : ℕ) → j < i + 1 → constantAt code′ j .from < constantAt code′ j .to → (b : Bool) → eqb j i ≡ b → ConstantHeld code′ h′ end j
@@ -262,6 +264,7 @@ module _ (s : Laid) {used : ℕ} {code₀ h₀ : List ℕ} {i : ℕ} {code h : L
     grown = y .grown;
     most = y .most;
     held = λ j l r. pick j l r (eqb j i) refl;
+    rest = λ j l. entered-other i 0 0 code j (λ e. omega arith) ∙ y .rest j (omega arith);
   }
     where
       agrees : (j : ℕ) → linkAt (entered i 0 0 code) j ≡ linkAt code j
@@ -301,30 +304,32 @@ laid-from zero s {used} {code₀} {h₀} {i} {code} {h} y l = let e : i + 0 ≡ 
 laid-from (suc left) s {used} {code₀} {h₀} {i} {code} {h} y l =
     let e : i + suc left ≡ i + 1 + left = omega arith in rw e (laid-from left (laidOne i s (limitOf used) code h .now) (one-more s y (omega arith)) (omega arith))
 
-past-none : (c : List ℕ) (i : ℕ) → 4097 ≤ i → constantAt c i ≡ constant 0 0
-unfolding constantAt
-past-none c i l = rw (le-ltb i 4097 l)
-
 -- THE LAW of constants
-module _ (used : ℕ) (code h : List ℕ) (long : length code ≡ 24582) (in-heap : length h ≡ 65535) where
-  all-laid : let w = laidFrom (limitOf used) 4097 0 (record { used = used; skip = 0 }) code h in Laying used code h 4097 (w .now .used) (w .code) (w .heap)
-  all-laid = laid-from 4097 (record { used = used; skip = 0 }) (record { links = λ j. refl; long = long; whole = in-heap; same = below-self; grown = omega arith; most = omega arith; held = λ j l r. absurd (omega arith) }) (omega arith)
+module _ (count used : ℕ) (code h : List ℕ) (long : length code ≡ 24582) (in-heap : length h ≡ 65535) where
+  all-laid : let w = laidFrom (limitOf used) (min count 4097) 0 (record { used = used; skip = 0 }) code h in Laying used code h (min count 4097) (w .now .used) (w .code) (w .heap)
+  all-laid =
+      let w = laidFrom (limitOf used) (min count 4097) 0 (record { used = used; skip = 0 }) code h in
+      let z : 0 + min count 4097 ≡ min count 4097 = omega arith in
+      subst (λ (n : ℕ). Laying used code h n (w .now .used) (w .code) (w .heap)) z
+      (laid-from (min count 4097) (record { used = used; skip = 0 })
+      (record { links = λ j. refl; long = long; whole = in-heap; same = below-self; grown = omega arith; most = omega arith; held = λ j l r. absurd (omega arith); rest = λ j l. refl }) (omega arith))
 
-  pub constants-held : let w = constantsLaid used code h in Constants (w .code) (w .heap) (w .used)
+  -- where the table was empty, it has these and no other
+  pub constants-held : NoConstants code → let w = constantsLaid count used code h in Constants (w .code) (w .heap) (w .used)
   unfolding constantsLaid
-  constants-held = let w = laidFrom (limitOf used) 4097 0 (record { used = used; skip = 0 }) code h in record { holds = λ i r. pick i r (decLe 4097 i) }
+  constants-held empty = let w = laidFrom (limitOf used) (min count 4097) 0 (record { used = used; skip = 0 }) code h in record { holds = λ i r. pick i r (decLe (min count 4097) i) }
     where
-      pick : (i : ℕ) → (let w = laidFrom (limitOf used) 4097 0 (record { used = used; skip = 0 }) code h in constantAt (w .code) i .from < constantAt (w .code) i .to → Dec (4097 ≤ i) → ConstantHeld (w .code) (w .heap) (w .now .used) i)
-      pick i r (yes l) = let w = laidFrom (limitOf used) 4097 0 (record { used = used; skip = 0 }) code h in let z : 0 < 0 = subst (λ (k : Constant). k .from < k .to) (past-none (w .code) i l) r in absurd (omega arith)
+      pick : (i : ℕ) → (let w = laidFrom (limitOf used) (min count 4097) 0 (record { used = used; skip = 0 }) code h in constantAt (w .code) i .from < constantAt (w .code) i .to → Dec (min count 4097 ≤ i) → ConstantHeld (w .code) (w .heap) (w .now .used) i)
+      pick i r (yes l) = let z : 0 < 0 = subst (λ (k : Constant). k .from < k .to) (all-laid .rest i l ∙ empty .none i) r in absurd (omega arith)
       pick i r (no l) = all-laid .held i (omega arith) r
 
   -- .. and what stays
   pub record Kept : Type 0 where
-    pub links : (j : ℕ) → linkAt (constantsLaid used code h .code) j ≡ linkAt code j
-    pub whole : length (constantsLaid used code h .heap) ≡ 65535
-    pub same : Below used (constantsLaid used code h .heap) h
-    pub grown : used ≤ constantsLaid used code h .used
-    pub most : constantsLaid used code h .used ≤ used + 4097
+    pub links : (j : ℕ) → linkAt (constantsLaid count used code h .code) j ≡ linkAt code j
+    pub whole : length (constantsLaid count used code h .heap) ≡ 65535
+    pub same : Below used (constantsLaid count used code h .heap) h
+    pub grown : used ≤ constantsLaid count used code h .used
+    pub most : constantsLaid count used code h .used ≤ used + 4097
 
   pub constants-kept : Kept
   unfolding constantsLaid

@@ -35,10 +35,10 @@ module _ (code : List ℕ) (j to : ℕ) where
   cells-none l = let n : to - j ≡ 0 = omega arith in rw n
 
 -- one token of `lay_constants`
-pub laid-again : (limit i : ℕ) (s : Laid) (code h : List ℕ) → i < 4097 → laidFrom limit (4097 - i) i s code h ≡ (let w = laidOne i s limit code h in laidFrom limit (4097 - (i + 1)) (i + 1) (w .now) (w .code) (w .heap))
+pub laid-again : (limit end i : ℕ) (s : Laid) (code h : List ℕ) → i < end → laidFrom limit (end - i) i s code h ≡ (let w = laidOne i s limit code h in laidFrom limit (end - (i + 1)) (i + 1) (w .now) (w .code) (w .heap))
 unfolding laidFrom
-laid-again limit i s code h l = let n : 4097 - i ≡ suc (4097 - (i + 1)) = omega arith in rw n
+laid-again limit end i s code h l = let n : end - i ≡ suc (end - (i + 1)) = omega arith in rw n
 
-pub laid-end : (limit i : ℕ) (s : Laid) (code h : List ℕ) → 4097 ≤ i → laidFrom limit (4097 - i) i s code h ≡ record { now = s; code = code; heap = h }
+pub laid-end : (limit end i : ℕ) (s : Laid) (code h : List ℕ) → end ≤ i → laidFrom limit (end - i) i s code h ≡ record { now = s; code = code; heap = h }
 unfolding laidFrom
-laid-end limit i s code h l = let n : 4097 - i ≡ 0 = omega arith in rw n
+laid-end limit end i s code h l = let n : end - i ≡ 0 = omega arith in rw n

@@ -69,7 +69,8 @@ constantsLeft u c h = record { used = u; code = c; heap = h }
 abbrev pub limitOf : ℕ → ℕ
 limitOf used = min (min used 65535 + 4097) 65535
 
-unfoldable pub constantsLaid : ℕ → List ℕ → List ℕ → ConstantsLeft
-constantsLaid used code h =
-    let w = laidFrom (limitOf used) 4097 0 (record { used = used; skip = 0 }) code h in
+-- those of the first so many tokens
+unfoldable pub constantsLaid : ℕ → ℕ → List ℕ → List ℕ → ConstantsLeft
+constantsLaid count used code h =
+    let w = laidFrom (limitOf used) (min count 4097) 0 (record { used = used; skip = 0 }) code h in
     constantsLeft (w .now .used) (w .code) (w .heap)

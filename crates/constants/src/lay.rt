@@ -127,17 +127,23 @@ fn lay_one(
     s
 }
 
-// All of them: what is used then, at most a cell a token more.
-pub fn lay_constants(code: &mut [u16; 24582], heap: &mut [u16; 65535], used: usize) -> usize
-    ensures { λ r. ⌜ constantsLeft r (now (code .exit)) (now (heap .exit)) ≡ constantsLaid used (now (code .entry)) (now (heap .entry)) ⌝ }
+// Those of the program's first `count` tokens: what is used then, at most a cell a token more.
+pub fn lay_constants(
+    code: &mut [u16; 24582],
+    heap: &mut [u16; 65535],
+    used: usize,
+    count: usize,
+) -> usize
+    ensures { λ r. ⌜ constantsLeft r (now (code .exit)) (now (heap .exit)) ≡ constantsLaid count used (now (code .entry)) (now (heap .entry)) ⌝ }
 {
+    let end = cell::least(count, TOKENS);
     let limit = cell::least(cell::least(used, 65535) + 4097, 65535);
     let mut s = Laid {
         used: used,
         skip: 0,
     };
     let mut i: usize = 0;
-    while i < TOKENS {
+    while i < end {
         s = lay_one(code, heap, i, s, limit);
         i += 1;
     }

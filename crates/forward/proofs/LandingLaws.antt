@@ -33,7 +33,7 @@ use Rattle.constants.proofs.ConstantLaws.{NoConstants, none-held}
 use Rattle.values.proofs.ValueLaws.{Typed, typed-length, Known}
 use Rattle.values.proofs.StateLaws.{known-in-scope, all-known, Stands}
 use Rattle.values.proofs.PairLaws.{entries-few, fits-typed}
-use Rattle.values.proofs.CallLeads.{found-linked}
+use Rattle.values.proofs.BodyLaws.{found-linked}
 use Rattle.atoms.specs.Atoms.{sidesAt}
 use Rattle.atoms.proofs.AtomLaws.{sideOf}
 use Rattle.atoms.proofs.TakeLaws.{same-successors}

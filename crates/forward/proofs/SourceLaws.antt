@@ -27,8 +27,7 @@ use Rattle.constants.proofs.ConstantLaws.{NoConstants, none-held}
 use Rattle.values.specs.Names.{namesFrom}
 use Rattle.values.specs.Values.{ValueLeft, valueLeft, valueAt}
 use Rattle.values.specs.declared.value.Valued.the-variants.{At}
-use Rattle.values.proofs.ValueLaws.{typed-length, Known, valued-name}
-use Rattle.values.proofs.ArgumentLaws.{AllKnown}
+use Rattle.values.proofs.ValueLaws.{typed-length, Known, AllKnown, valued-name}
 use Rattle.values.proofs.ValueLaws.{past-linked}
 use Rattle.values.proofs.RoomLaws.{value-outcome}
 use Rattle.values.proofs.RoomLaws as values

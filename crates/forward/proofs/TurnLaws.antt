@@ -20,11 +20,11 @@ use Rattle.semantics.proofs.Forward.{apply-embed}
 use Rattle.semantics.proofs.Scopes.{Covers, WellScoped, scoped-map}
 use Rattle.semantics.proofs.Evaluation.{Goes, step-goes, scoped-step}
 use Rattle.sets.specs.Cells.{cells}
-use Rattle.heap.specs.Compacting.{Compaction, compacted}
+use Rattle.compaction.specs.Compacting.{Compaction, compacted}
 use Rattle.heap.specs.Moving.{Left}
 use Rattle.heap.specs.declared.configuration.Configuration.{Configuration as InCells}
 use Rattle.heap.specs.declared.configuration.Moved.the-variants.{Over as MovedOver}
-use Rattle.heap.proofs.CompactLaws.{Compacted, compact-means}
+use Rattle.compaction.proofs.CompactLaws.{Compacted, compact-means}
 use Rattle.linking.specs.Linked.{ExpLinked, TermLinked, resultLinked}
 use Rattle.linking.specs.Places.{envOf}
 use Rattle.constants.proofs.ConstantLaws.{NoConstants}

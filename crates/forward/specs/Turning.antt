@@ -3,7 +3,7 @@ use Prim.Native.Nat.{ℕ, _-_, min}
 use mathlib.Core.Bool.{Bool, cond}
 use mathlib.Core.List.{List}
 use lib.Dec.{ltb}
-use Rattle.heap.specs.Compacting.{Compaction, compacted}
+use Rattle.compaction.specs.Compacting.{Compaction, compacted}
 use Rattle.heap.specs.Entries.{nodesFrom}
 use Rattle.heap.specs.Moving.{Left}
 use Rattle.heap.specs.declared.configuration.Configuration.{Configuration}

@@ -3,7 +3,7 @@ use crate::next::ends_at;
 use crate::next::is_over;
 use crate::next::next_place;
 use crate::output::push_output;
-use heap::compact::compact;
+use compaction::compact::compact;
 use heap::configuration::Configuration;
 use heap::configuration::Moved;
 use heap::entry;

@@ -10,7 +10,7 @@ use Rattle.sets.specs.Fill.{FillAnswer, fillAnswer}
 use Rattle.sets.specs.declared.fill.Filled.{Filled}
 use Rattle.sets.specs.declared.fill.Filled.the-variants.{Done, Over}
 use Rattle.runs.specs.Runs.{ReplaceAnswer, replaceAnswer, replaced}
-use Rattle.runs.specs.declared.run.Replaced.{Replaced}
+use Rattle.codes.specs.declared.outcome.Replaced.{Replaced}
 use Rattle.heap.specs.Entries.{entryKnown, entryFrom, entryTo}
 use Rattle.heap.specs.Contracted.{Stores, stores, enteredFrame, leafEntered, onwardFrom, contractedEntry, contractedFrom}
 

@@ -14,7 +14,7 @@ use Rattle.sets.specs.Fill.{spread}
 use Rattle.sets.proofs.CellLaws.{cells-nodes, cells-injective}
 use Rattle.runs.specs.Runs.{anyVariable, spreadSize}
 use Rattle.runs.proofs.RunLaws.{size-is, size-one}
-use Rattle.heap.specs.Contracted.{knownAfter, closedAs}
+use Rattle.codes.specs.Knowing.{knownAfter, closedAs}
 use Rattle.heap.proofs.HeapLaws.{Filling, spread-none}
 
 -- the nodes of a pair's head; no other tree has a head

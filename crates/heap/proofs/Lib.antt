@@ -5,4 +5,3 @@ pub mod FrameLaws
 pub mod PairLaws
 pub mod NodeLaws
 pub mod PartLaws
-pub mod CompactLaws

@@ -1,4 +1,3 @@
 pub mod Entries
 pub mod Contracted
 pub mod Moving
-pub mod Compacting

@@ -1,27 +1,15 @@
 // A contraction of entries: an entry in whose range the variable stands gets a new range, its filled copy. A range in which no variable stands is passed by.
 use crate::entry;
+use codes::known::closed;
+use codes::known::known_after;
+use codes::outcome::Replaced;
 use runs::run;
-use runs::run::Replaced;
 use sets::cell;
 use sets::fill::Filled;
 ghost use mathlib.Core.Path.{_≡_};
 ghost use Prim.Native.Nat.{_<_};
 ghost use Rattle.sets.specs.Fill.{fillAnswer};
-ghost use Rattle.heap.specs.Contracted.{knownAfter, closedAs, enteredFrame, leafEntered, stores, contractedEntry, contractedEntries};
-
-// What is known of a value in which a variable was replaced by a tree of `size` cells: a tree of one cell keeps every length.
-fn known_after(known: u16, size: usize) -> u16
-    ensures { λ r. ⌜ r ≡ knownAfter known size ⌝ }
-{
-    if size == 1 { known } else { 0 }
-}
-
-// What is known of a value in which no variable stands.
-fn closed(k: u16) -> u16
-    ensures { λ r. ⌜ r ≡ closedAs k ⌝ }
-{
-    if k % 2 == 1 { k } else { k + 1 }
-}
+ghost use Rattle.heap.specs.Contracted.{enteredFrame, leafEntered, stores, contractedEntry, contractedEntries};
 
 // The entry i by what became of its range: its new range where it was filled. Done: what is used then.
 fn entered(

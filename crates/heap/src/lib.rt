@@ -1,6 +1,5 @@
 // Trees in one heap: a value is a range of it, and what is written is written at `used` and behind it.
 pub mod apply;
-pub mod compact;
 pub mod configuration;
 pub mod contract;
 pub mod entry;

@@ -31,7 +31,7 @@ use Rattle.linking.specs.Linked.{ProgramLinked}
 use Rattle.linking.specs.Places.{envOf}
 use Rattle.values.proofs.ValueLaws.{Typed, noneTyped, eTyped, aTyped}
 use Rattle.values.proofs.StateLaws.{trees, pair-nodes, nodes-length, Stands}
-use Rattle.values.proofs.CallLeads.{found-linked}
+use Rattle.values.proofs.BodyLaws.{found-linked}
 use Rattle.layout.specs.Fresh.{firstFreshCells}
 use Rattle.layout.specs.Laying.{jobLaid, partsOf, sidesTaken}
 use Rattle.initial.specs.Beginning.{EnterLeft, begunEntered, BegunLeft, besides, sidesBegun, begunAt, jobEntered}

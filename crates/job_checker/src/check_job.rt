@@ -25,7 +25,8 @@ use lexer::keys::OPEN;
 use lexer::keys::SYMBOL;
 ghost use mathlib.Core.Path.{_≡_};
 ghost use Prim.Native.Nat.{_-_};
-ghost use mathlib.Core.Bool.{false};
+ghost use mathlib.Core.Bool.{true, false};
+ghost use Rattle.checker.specs.declared.check.Verdict.the-variants.{Fine};
 ghost use Rattle.job_checker.specs.JobStored.{numeralFrom, datumLeaf, datumAt, atomicAt, inputAt, inputsAt, markedFrom, sideAt, twoSides, sidesAt, boundsAt, tensAt, elevensAt, jobAt};
 
 // "in the runner, any variable in an input (offset: the variable)".
@@ -100,7 +101,7 @@ fn input(
     }
 }
 
-// The inputs from `i` on, the parameters from `p` on: `fits` is whether they are as many so far, `uses` the first fault so far.
+// The inputs from `i` on, the parameters from `p` on; none takes less than a token, so that n turns are enough.
 fn inputs(
     marks: &[u16],
     ats: &[u16],
@@ -108,18 +109,15 @@ fn inputs(
     runs: bool,
     main: &[u16],
     m: usize,
-    fuel: usize,
     p: usize,
-    fits: bool,
-    uses: Verdict,
     i: usize,
 ) -> Args
-    ensures { λ r. ⌜ r ≡ inputsAt (now (marks .entry)) (now (ats .entry)) (now (ats .entry)) n runs (now (main .entry)) m fuel p fits uses i ⌝ }
+    ensures { λ r. ⌜ r ≡ inputsAt (now (marks .entry)) (now (ats .entry)) (now (ats .entry)) n runs (now (main .entry)) m n p true Fine i ⌝ }
 {
-    let mut left = fuel;
+    let mut left = n;
     let mut param = p;
-    let mut as_many = fits;
-    let mut fault = uses;
+    let mut as_many = true;
+    let mut fault = Verdict::Fine;
     let mut at = i;
     while 0 < left {
         let closes = key(main, m, param) == CLOSE_LIST;
@@ -286,7 +284,7 @@ fn tens(
 ) -> Walked
     ensures { λ r. ⌜ r ≡ tensAt (now (marks .entry)) (now (ats .entry)) (now (ats .entry)) n runs (now (main .entry)) m p ⌝ }
 {
-    let ins = inputs(marks, ats, n, runs, main, m, n, p, true, Verdict::Fine, 4);
+    let ins = inputs(marks, ats, n, runs, main, m, p, 4);
     let a = ins.past;
     let fits = ins.fits;
     let u = ins.uses;

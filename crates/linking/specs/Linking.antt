@@ -174,3 +174,7 @@ module _ (marks nums : List ℕ) where
 
       abbrev pub programLinked : List ℕ → List ℕ
       programLinked code = definitionsLinked (min count 64) 0 (linked (replicate 144 0) code) .code
+
+-- past the last of so many definitions, whose name stands two tokens behind its bracket
+abbrev pub programEnd : List ℕ → List ℕ → ℕ → ℕ
+programEnd ends heads count = getD ends (getD heads (count - 1) 0 - 2) 0

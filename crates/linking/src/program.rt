@@ -8,7 +8,7 @@ use crate::tokens::wide;
 use sets::cell;
 ghost use mathlib.Core.Path.{_≡_};
 ghost use Prim.Native.Nat.{_-_};
-ghost use Rattle.linking.specs.Linking.{linksLeft, linked, parametersLinked, definitionLinked, programLinked};
+ghost use Rattle.linking.specs.Linking.{linksLeft, linked, parametersLinked, definitionLinked, programLinked, programEnd};
 
 // The parameters from p up to `to`, in order: how many are in reach then.
 fn link_parameters(
@@ -82,4 +82,12 @@ pub fn link_program(
         link_definition(marks, nums, ends, heads, count, &mut names, code, h);
         j += 1;
     }
+}
+
+// The index past the last of so many definitions, whose name stands two tokens behind its bracket: as many tokens the program has.
+pub fn program_end(ends: &[u16], heads: &[u16; 64], count: usize) -> usize
+    ensures { λ r. ⌜ r ≡ programEnd (now (ends .entry)) (now (heads .entry)) count ⌝ }
+{
+    let name = wide(cell::cell(heads, cell::less(count, 1)));
+    wide(cell::cell(ends, cell::less(name, 2)))
 }

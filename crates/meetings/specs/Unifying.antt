@@ -3,7 +3,7 @@ use Prim.Native.Nat.{ℕ, zero, suc, _+_}
 use mathlib.Core.Bool.{cond}
 use mathlib.Core.List.{List}
 use lib.Dec.{leb, ltb}
-use Rattle.heap.specs.Compacting.{Compaction, compacted}
+use Rattle.compaction.specs.Compacting.{Compaction, compacted}
 use Rattle.meetings.specs.Differing.{leftmostIn}
 use Rattle.meetings.specs.Classes.{placeIn, outputEntry, wantedEntry, classNodes, withUsed, bindingsIn}
 use Rattle.meetings.specs.Binding.{StepLeft, stepLeft, variableBound}

@@ -1,7 +1,7 @@
 // Room in the heap for a binding, which writes at most the nodes of a class.
 use crate::class;
 use crate::class::Class;
-use heap::compact;
+use compaction::compact;
 ghost use mathlib.Core.Path.{_≡_};
 ghost use Rattle.meetings.specs.Unifying.{roomed, roomMade};
 

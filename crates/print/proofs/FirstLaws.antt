@@ -10,7 +10,7 @@ use Rattle.language.specs.Source.{SProg, SJob, prog, class}
 use Rattle.language.specs.JobCheck.{lister}
 use Rattle.language.specs.Reading.{accepted, reading}
 use Rattle.listing.specs.Text.{printRefusal}
-use Rattle.texts.specs.BothCells.{bothOver}
+use Rattle.reading.specs.BothCells.{bothOver}
 use Rattle.answers.specs.Headings.{headingOf}
 use Rattle.answers.specs.declared.list.Answer.{Answer}
 use Rattle.answers.specs.declared.list.Answer.the-variants.{Short}

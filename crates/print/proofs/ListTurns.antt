@@ -4,8 +4,8 @@ use mathlib.Core.Path.{_≡_, refl, ap, ap₂, _∙_}
 use mathlib.Core.Bool.{false}
 use mathlib.Core.List.{List}
 use lib.ListN.{length, replicate}
-use Rattle.texts.specs.BothCells.{BothAnswer, bothOver}
-use Rattle.texts.specs.declared.both.Both.{Both}
+use Rattle.reading.specs.BothCells.{BothAnswer, bothOver}
+use Rattle.reading.specs.declared.both.Both.{Both}
 use Rattle.answers.specs.declared.heading.Ending.{Ending}
 use Rattle.answers.specs.Headings.{headingOf}
 use Rattle.answers.specs.declared.list.Answer.{Answer}

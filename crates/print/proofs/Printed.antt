@@ -27,8 +27,8 @@ use Rattle.semantics.specs.Answer.{answered, walked, ran, Listed, list, run}
 use Rattle.semantics.proofs.AcceptedTexts.{run-answer, list-answer}
 use Rattle.listing.specs.Text.{printRefusal, printRefusalOfNeither, listText, runText}
 use Rattle.lent.specs.Storage.{zeros}
-use Rattle.texts.specs.BothCells.{BothAnswer, bothOver}
-use Rattle.texts.proofs.BothRead.{zeros-length, leaving, refusedTexts, taken, texts-by-reading}
+use Rattle.reading.specs.BothCells.{BothAnswer, bothOver}
+use Rattle.reading.proofs.BothRead.{zeros-length, leaving, refusedTexts, taken, texts-by-reading}
 use Rattle.heap.proofs.HeapLaws.{sets-cells}
 use Rattle.runs.specs.Runs.{cellsAt}
 use Rattle.runs.proofs.RunLaws.{below-self, below-sets, cells-below, run-drop, sets-append}

@@ -4,9 +4,9 @@ use mathlib.Core.Bool.{false}
 use mathlib.Core.List.{List}
 use lib.ListN.{take, replicate}
 use Rattle.listing.specs.Text.{printRefusal}
-use Rattle.texts.specs.BothCells.{BothAnswer, bothOver}
-use Rattle.texts.specs.declared.both.Both.{Both}
-use Rattle.texts.specs.declared.both.Both.the-variants.{Accepted, Program as OfProgram, Job as OfJob, Short as TooShort}
+use Rattle.reading.specs.BothCells.{BothAnswer, bothOver}
+use Rattle.reading.specs.declared.both.Both.{Both}
+use Rattle.reading.specs.declared.both.Both.the-variants.{Accepted, Program as OfProgram, Job as OfJob, Short as TooShort}
 use Rattle.layout.specs.Laying.{jobLaid}
 use Rattle.layout.specs.declared.job.Laid.{Laid}
 use Rattle.layout.specs.declared.job.Laid.the-variants.{Done, Over}

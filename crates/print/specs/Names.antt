@@ -3,9 +3,9 @@ use Prim.Native.Nat.{ℕ}
 use mathlib.Core.Bool.{Bool}
 use mathlib.Core.List.{List}
 use lib.ListN.{replicate}
-use Rattle.texts.specs.BothCells.{bothRead}
-use Rattle.texts.specs.declared.both.Both.{Both}
-use Rattle.texts.specs.declared.both.Both.the-variants.{Accepted, Program, Job, Short}
+use Rattle.reading.specs.BothCells.{bothRead}
+use Rattle.reading.specs.declared.both.Both.{Both}
+use Rattle.reading.specs.declared.both.Both.the-variants.{Accepted, Program, Job, Short}
 
 pub record Names : Type 0 where
   pub found : ℕ

@@ -1,6 +1,6 @@
 // The table of the symbols of two texts, read again: what a value is printed with.
-use texts::both::Both;
-use texts::both::read_both;
+use reading::both::Both;
+use reading::both::read_both;
 ghost use mathlib.Core.Path.{_≡_};
 ghost use Rattle.print.specs.Names.{foundIn, textNames};
 

@@ -1,5 +1,6 @@
 // The check of a program by its tokens: "Program: 6; then 7, 8, 9 at the earliest token" (01, "From the input"). The tokens, n of them,
 // were read without refusal.
+use crate::check_terms::Reach;
 use crate::check_terms::find;
 use crate::check_terms::put;
 use crate::check_terms::term;
@@ -135,7 +136,8 @@ fn walked_body(
 {
     let start = ahead(n, 1, params_end(marks, n, 16, ahead(n, 4, i)));
     let mut cells = [0usize; 144];
-    term(marks, nums, ats, n, heads, 0, 63, &mut cells, 0, start)
+    let reach = Reach { room: 63, used: 0 };
+    term(marks, nums, ats, n, heads, 0, reach, &mut cells, start)
 }
 
 // One definition more: "6 a function or a parameter defined twice; equal names in one `cons?`".
@@ -205,18 +207,8 @@ fn body(
     let sc = params(marks, n, 16, p);
     let mut cells = sc.cells;
     let used = sc.used;
-    let t = term(
-        marks,
-        nums,
-        ats,
-        n,
-        heads,
-        count,
-        63,
-        &mut cells,
-        used,
-        start,
-    );
+    let reach = Reach { room: 63, used };
+    let t = term(marks, nums, ats, n, heads, count, reach, &mut cells, start);
     t.uses
 }
 

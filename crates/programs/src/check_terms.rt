@@ -1,6 +1,5 @@
 // The check of terms by their tokens: 6 in `cons?`, 7, 8, 9 (01, "From the input"). `heads`, `count` of them, are the definitions, each by
 // the index of its name; `cells`, `used` of them, are the names in reach. A branch writes its own behind these, and keeps these.
-use checker::check::Verdict;
 use checker::check::Walked;
 use checker::check::both;
 use checker::check::called;
@@ -25,6 +24,12 @@ ghost use mathlib.Core.Path.{_≡_};
 ghost use Prim.Native.Nat.{_-_};
 ghost use Rattle.checker.specs.CheckAt.{names, Kept, Put};
 ghost use Rattle.checker.specs.CheckStored.{placeAt, callAt, termAt, eqaAt, conspAt};
+
+// How many more brackets may be opened, and how many names are in reach.
+pub(crate) struct Reach {
+    pub room: usize,
+    pub used: usize,
+}
 
 // One name more, in cells that are lent: how many are used then.
 pub(crate) fn put(cells: &mut [usize; 144], used: usize, x: usize) -> usize
@@ -67,30 +72,18 @@ fn call(
     n: usize,
     heads: &[usize],
     count: usize,
-    room: usize,
+    reach: Reach,
     cells: &[usize],
-    used: usize,
     i: usize,
 ) -> Walked
-    ensures { λ r. ⌜ r ≡ callAt (now (marks .entry)) (now (nums .entry)) (now (ats .entry)) n (now (heads .entry)) count room (now (cells .entry)) used i ⌝ }
+    ensures { λ r. ⌜ r ≡ callAt (now (marks .entry)) (now (nums .entry)) (now (ats .entry)) n (now (heads .entry)) count (reach .room) (now (cells .entry)) (reach .used) i ⌝ }
 {
+    let room = reach.room;
+    let used = reach.used;
     let f = ahead(n, 2, i);
     let g = find(nums, n, heads, count, num(nums, n, f));
     let p = ahead(n, 2, index(heads, g));
-    let c = args(
-        marks,
-        nums,
-        ats,
-        n,
-        n,
-        room,
-        cells,
-        used,
-        p,
-        true,
-        Verdict::Fine,
-        ahead(n, 4, i),
-    );
+    let c = args(marks, nums, ats, n, room, cells, used, p, ahead(n, 4, i));
     let end = c.past;
     let fits = c.fits;
     let u = c.uses;
@@ -106,31 +99,22 @@ fn eqa(
     n: usize,
     heads: &[usize],
     count: usize,
-    room: usize,
+    reach: Reach,
     cells: &mut [usize; 144],
-    used: usize,
     i: usize,
 ) -> Walked
-    ensures { λ r. ⌜ (r ≡ eqaAt (now (marks .entry)) (now (nums .entry)) (now (ats .entry)) n (now (heads .entry)) count room (names (now (cells .entry)) used) i) × Kept used (now (cells .entry)) (now (cells .exit)) ⌝ }
+    ensures { λ r. ⌜ (r ≡ eqaAt (now (marks .entry)) (now (nums .entry)) (now (ats .entry)) n (now (heads .entry)) count (reach .room) (names (now (cells .entry)) (reach .used)) i) × Kept (reach .used) (now (cells .entry)) (now (cells .exit)) ⌝ }
 {
+    let room = reach.room;
+    let used = reach.used;
     let c = ea(marks, nums, ats, n, room, cells, used, ahead(n, 4, i));
     let c_past = c.past;
     let d = ea(marks, nums, ats, n, room, cells, used, c_past);
     let d_past = d.past;
-    let s = term(
-        marks,
-        nums,
-        ats,
-        n,
-        heads,
-        count,
-        room,
-        cells,
-        used,
-        ahead(n, 1, d_past),
-    );
+    let start = ahead(n, 1, d_past);
+    let s = term(marks, nums, ats, n, heads, count, reach, cells, start);
     let s_past = s.past;
-    let u = term(marks, nums, ats, n, heads, count, room, cells, used, s_past);
+    let u = term(marks, nums, ats, n, heads, count, reach, cells, s_past);
     let u_past = u.past;
     let s_names = s.names;
     let u_names = u.names;
@@ -153,13 +137,14 @@ fn consp(
     n: usize,
     heads: &[usize],
     count: usize,
-    room: usize,
+    reach: Reach,
     cells: &mut [usize; 144],
-    used: usize,
     i: usize,
 ) -> Walked
-    ensures { λ r. ⌜ (r ≡ conspAt (now (marks .entry)) (now (nums .entry)) (now (ats .entry)) n (now (heads .entry)) count room (names (now (cells .entry)) used) i) × Kept used (now (cells .entry)) (now (cells .exit)) ⌝ }
+    ensures { λ r. ⌜ (r ≡ conspAt (now (marks .entry)) (now (nums .entry)) (now (ats .entry)) n (now (heads .entry)) count (reach .room) (names (now (cells .entry)) (reach .used)) i) × Kept (reach .used) (now (cells .entry)) (now (cells .exit)) ⌝ }
 {
+    let room = reach.room;
+    let used = reach.used;
     let c = exp(marks, nums, ats, n, room, cells, used, ahead(n, 4, i));
     let h = c.past;
     let t = ahead(n, 1, h);
@@ -167,10 +152,12 @@ fn consp(
     let one = put(cells, used, h);
     let two = put(cells, one, t);
     let start = ahead(n, 4, h);
-    let s = term(marks, nums, ats, n, heads, count, room, cells, two, start);
+    let on_true = Reach { room, used: two };
+    let s = term(marks, nums, ats, n, heads, count, on_true, cells, start);
     let k = s.past;
     let other = put(cells, used, x);
-    let u = term(marks, nums, ats, n, heads, count, room, cells, other, k);
+    let on_false = Reach { room, used: other };
+    let u = term(marks, nums, ats, n, heads, count, on_false, cells, k);
     let u_past = u.past;
     let s_names = s.names;
     let u_names = u.names;
@@ -197,28 +184,31 @@ pub(crate) fn term(
     n: usize,
     heads: &[usize],
     count: usize,
-    room: usize,
+    reach: Reach,
     cells: &mut [usize; 144],
-    used: usize,
     i: usize,
 ) -> Walked
-    ensures { λ r. ⌜ (r ≡ termAt (now (marks .entry)) (now (nums .entry)) (now (ats .entry)) n (now (heads .entry)) count room (names (now (cells .entry)) used) i) × Kept used (now (cells .entry)) (now (cells .exit)) ⌝ }
+    ensures { λ r. ⌜ (r ≡ termAt (now (marks .entry)) (now (nums .entry)) (now (ats .entry)) n (now (heads .entry)) count (reach .room) (names (now (cells .entry)) (reach .used)) i) × Kept (reach .used) (now (cells .entry)) (now (cells .exit)) ⌝ }
 {
+    let room = reach.room;
+    let used = reach.used;
     if room == 0 {
         return leaf(marks, nums, ats, n, cells, used, i);
     }
     if key(marks, n, i) == OPEN {
+        let less = room - 1;
+        let inner = Reach { room: less, used };
         let form = key(marks, n, ahead(n, 1, i));
         if form == CALL {
-            return call(marks, nums, ats, n, heads, count, room - 1, cells, used, i);
+            return call(marks, nums, ats, n, heads, count, inner, cells, i);
         }
         if form == IF {
             if key(marks, n, ahead(n, 3, i)) == EQA {
-                return eqa(marks, nums, ats, n, heads, count, room - 1, cells, used, i);
+                return eqa(marks, nums, ats, n, heads, count, inner, cells, i);
             }
-            return consp(marks, nums, ats, n, heads, count, room - 1, cells, used, i);
+            return consp(marks, nums, ats, n, heads, count, inner, cells, i);
         }
-        return pair(marks, nums, ats, n, room - 1, cells, used, i);
+        return pair(marks, nums, ats, n, less, cells, used, i);
     }
     leaf(marks, nums, ats, n, cells, used, i)
 }

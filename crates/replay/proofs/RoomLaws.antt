@@ -13,9 +13,9 @@ use Rattle.language.specs.Program.{Prog}
 use Rattle.semantics.specs.Configuration.{nodesState, Configuration}
 use Rattle.semantics.specs.Tree.{Node}
 use Rattle.semantics.specs.Backtrack.{Choice}
-use Rattle.heap.specs.Compacting.{Compaction, compacted}
+use Rattle.compaction.specs.Compacting.{Compaction, compacted}
 use Rattle.runs.proofs.RunLaws.{Below}
-use Rattle.heap.proofs.CompactLaws.{Compacted, compact-means}
+use Rattle.compaction.proofs.CompactLaws.{Compacted, compact-means}
 use Rattle.heap.specs.declared.configuration.Configuration.{Configuration as InCells}
 use Rattle.saving.specs.Heads.{usedAt}
 use Rattle.saving.specs.Saving.{olderUsed}

@@ -3,7 +3,7 @@ use Prim.Native.Nat.{ℕ, _+_, min}
 use mathlib.Core.Bool.{Bool, true, cond}
 use mathlib.Core.List.{List}
 use lib.Dec.{ltb}
-use Rattle.heap.specs.Compacting.{compacted}
+use Rattle.compaction.specs.Compacting.{compacted}
 use Rattle.heap.specs.declared.configuration.Configuration.{Configuration}
 use Rattle.saving.specs.Heads.{usedAt}
 use Rattle.saving.specs.Saving.{olderUsed}

@@ -1,7 +1,7 @@
 // Room for a transition: what is written along a path and no longer in use is given back before the heap is full.
 use crate::position::Position;
 use crate::position::position_at;
-use heap::compact::compact;
+use compaction::compact::compact;
 use heap::configuration::Configuration;
 use saving::head::used_at;
 use saving::saved::older_used;

@@ -30,10 +30,11 @@ use Rattle.semantics.specs.Answer.{Listed, limits, answerOf as meaningOf, list}
 use Rattle.semantics.proofs.Backtracking.{back-findings}
 use Rattle.semantics.proofs.MainCall.{accepted-main}
 use Rattle.language.specs.Program.{Prog}
-use Rattle.linking.specs.Linking.{programLinked}
+use Rattle.linking.specs.Linking.{programLinked, programEnd}
 use Rattle.linking.specs.Linked.{ProgramLinked}
 use Rattle.linking.proofs.ProgramLaws.{bodiesOf}
 use Rattle.linking.proofs.Accepted.{accepted-linked, accepted-kept}
+use Rattle.constants.proofs.ConstantLaws.{NoConstants, nought-at, nought-none}
 use Rattle.initial.specs.Beginning.{mainBody, BegunLeft, begunAt}
 use Rattle.initial.specs.declared.begin.Begun.{Begun}
 use Rattle.initial.specs.declared.begin.Begun.the-variants.{Over as BegunOver}
@@ -44,18 +45,18 @@ use Rattle.lines.specs.LineCells.{linesCells, answerRoom}
 use Rattle.lines.proofs.LineLaws.{LinesHeld, no-lines}
 use Rattle.lines.proofs.LineLaws as lines
 use Rattle.turns.specs.Finding.{nothingFound}
-use Rattle.walk.specs.Jobs.{JobLeft, jobLeft, onBegun, walkJob}
+use Rattle.walk.specs.Jobs.{JobLeft, jobLeft, onBegun, walkJob, JobLaid, jobLaid, walkLaid}
 use Rattle.turns.specs.declared.found.Walked.{Walked as Came}
 use Rattle.walk.proofs.JobLaws.{Leaves, begun-means}
-use Rattle.texts.specs.BothCells.{BothAnswer, bothOver}
+use Rattle.reading.specs.BothCells.{BothAnswer, bothOver}
 use Rattle.resolve.specs.ListAnswer.{ListLeft, worded, answerOf, linesThen, cellsAfter}
 use Rattle.resolve.specs.ListCells.{cameTo, ReadLeft, readLeft, ListOut, listedRead, listBehind, listTexts}
-use Rattle.texts.specs.declared.both.Both.{Both}
-use Rattle.texts.specs.declared.both.Both.the-variants.{Accepted as Taken}
+use Rattle.reading.specs.declared.both.Both.{Both}
+use Rattle.reading.specs.declared.both.Both.the-variants.{Accepted as Taken}
 use Rattle.answers.specs.declared.list.Answer.{Answer as Outcome}
 use Rattle.answers.specs.declared.list.Answer.the-variants.{Whole, Cut}
-use Rattle.texts.proofs.BothTurns.{LeftBy}
-use Rattle.texts.proofs.BothRead.{zeros-length, endsOf, tableOf, headsOf, partsOf, leaving, refusedTexts, taken, both-are, texts-by-reading}
+use Rattle.reading.proofs.BothTurns.{LeftBy}
+use Rattle.reading.proofs.BothRead.{zeros-length, endsOf, tableOf, headsOf, partsOf, leaving, refusedTexts, taken, both-are, texts-by-reading}
 use Rattle.resolve.proofs.StartSound.{start-reaches}
 use Rattle.resolve.proofs.BeginPlace.{begun-place}
 
@@ -69,13 +70,13 @@ unfolding listTexts
 list-left program job work d {t} {x = x} {b = b} {o = o} is h =
     subst (λ (w : BothAnswer). ListOut o x b (listBehind d w)) (both-are {w = bothOver false program job work} is refl) (ap (λ (w : ReadLeft). w .answer) h, refl, ap (λ (w : ReadLeft). w .cells) h)
 
-pub walked-behind : (d marks nums ends heads jmarks jnums : List ℕ) (c n : ℕ) (e : JobEnds) (k : Numerals) {a b code : List ℕ} {body : ℕ} {r : Came} {o : Outcome} → code ≡ programLinked marks nums ends heads c (replicate 24582 0) → body ≡ mainBody marks heads → a ≡ zeros d →
-    jobLeft r b ≡ walkJob code body jmarks jnums e k a → o ≡ cameTo r → readLeft o b ≡ listedRead (Taken c n e k) marks nums ends heads jmarks jnums d
+pub walked-behind : (d marks nums ends heads jmarks jnums : List ℕ) (c n : ℕ) (e : JobEnds) (k : Numerals) {a b code laid : List ℕ} {tokens body : ℕ} {r : Came} {o : Outcome} → code ≡ programLinked marks nums ends heads c (replicate 24582 0) → tokens ≡ programEnd ends heads c → body ≡ mainBody marks heads → a ≡ zeros d →
+    jobLaid (jobLeft r b) laid ≡ walkLaid code tokens body jmarks jnums e k a → o ≡ cameTo r → readLeft o b ≡ listedRead (Taken c n e k) marks nums ends heads jmarks jnums d
 unfolding listedRead
-walked-behind d marks nums ends heads jmarks jnums c n e k {a = a} {code = code} {body = body} l m z h g =
+walked-behind d marks nums ends heads jmarks jnums c n e k {a = a} {code = code} {tokens = tokens} {body = body} l t m z h g =
     let v =
-    h ∙ ap (λ (s : List ℕ). walkJob s body jmarks jnums e k a) l ∙ ap (λ (i : ℕ). walkJob (programLinked marks nums ends heads c (replicate 24582 0)) i jmarks jnums e k a) m
-    ∙ ap (walkJob (programLinked marks nums ends heads c (replicate 24582 0)) (mainBody marks heads) jmarks jnums e k) z
+    ap (λ (w : JobLaid). w .left) h ∙ ap (λ (s : List ℕ). walkJob s tokens body jmarks jnums e k a) l ∙ ap (λ (i : ℕ). walkJob (programLinked marks nums ends heads c (replicate 24582 0)) i body jmarks jnums e k a) t ∙ ap (λ (i : ℕ). walkJob (programLinked marks nums ends heads c (replicate 24582 0)) (programEnd ends heads c) i jmarks jnums e k a) m
+    ∙ ap (walkJob (programLinked marks nums ends heads c (replicate 24582 0)) (programEnd ends heads c) (mainBody marks heads) jmarks jnums e k) z
     in
     ap₂ readLeft (g ∙ ap (λ (w : JobLeft). cameTo (w .walked)) v) (ap (λ (w : JobLeft). w .answer) v)
 
@@ -143,6 +144,12 @@ module _ (program job : List ℕ) (p : SProg) (j : SJob) (e : reading lister pro
   wide : length code ≡ 24582
   wide = accepted-kept program s p h (s .ats) (replicate 64 0) room (omega (arith, zeros-length 64)) (replicate 24582 0) (zeros-length 24582) .0
 
+  empty : NoConstants code
+  empty = nought-none code (λ m l. accepted-kept program s p h (s .ats) (replicate 64 0) room (omega (arith, zeros-length 64)) (replicate 24582 0) (zeros-length 24582) .1 m l ∙ nought-at 24582 m)
+
+  abbrev tokens : ℕ
+  tokens = programEnd (endsOf s) (headsOf s) (tableOf s .count)
+
   -- main's body over zeroed storages
   abbrev begun : BegunLeft
   begun = begunAt (mainBody (s .marks) (headsOf s)) (u .marks) (u .nums) (partsOf u) false (replicate 65535 0) (replicate 12360 0) (replicate 4096 0)
@@ -152,7 +159,7 @@ module _ (program job : List ℕ) (p : SProg) (j : SJob) (e : reading lister pro
 
   module _ (d : List ℕ) (long : answerRoom ≤ length d) where
     abbrev walks : Begun → JobLeft
-    walks b = onBegun code numerals (zeros d) begun b
+    walks b = onBegun code tokens numerals (zeros d) begun b
 
     nothing-held : LinesHeld [] 0 (zeros d) (nothingFound .lines)
     nothing-held = no-lines (length d)
@@ -172,7 +179,7 @@ module _ (program job : List ℕ) (p : SProg) (j : SJob) (e : reading lister pro
       on-leaves b =
           let a = accepted-passed lister program job p j e in
           let at = begun-place b (start-main (prog p) (class j) K (a .wellFormed) (a .fits) f .1) in
-          begun-means (prog p) bodies code ok wide K (accepted-main lister program job p j e K f) begun b (limits j) (a .table) (a .walk) N (a .steps) numerals refl refl refl (omega arith)
+          begun-means (prog p) bodies code tokens ok empty wide K (accepted-main lister program job p j e K f) begun b (limits j) (a .table) (a .walk) N (a .steps) numerals refl refl refl (omega arith)
           (start-reaches lister program job p j e K f N) (zeros d) nothing-held (omega (arith, zeros-length (length d)))
 
       -- The walk over the cells of accepted texts is that of the definitions.

@@ -47,12 +47,12 @@ use Rattle.forward.proofs.RunMeans.{RanMeans, runner-over, run-means}
 use Rattle.resolve.specs.RunAnswer.{RunLeft, answerOf, cellsAfter}
 use Rattle.answers.specs.declared.run.Answer.{Answer as Outcome}
 use Rattle.answers.specs.declared.run.Answer.the-variants.{Value as ValueOf, Over, NotWithin}
-use Rattle.texts.specs.BothCells.{BothAnswer, bothOver}
+use Rattle.reading.specs.BothCells.{BothAnswer, bothOver}
 use Rattle.resolve.specs.RunCells.{answerRan, RunOut, ranLeft, runBehind, runTexts}
-use Rattle.texts.specs.declared.both.Both.{Both}
-use Rattle.texts.specs.declared.both.Both.the-variants.{Accepted as Taken}
-use Rattle.texts.proofs.BothTurns.{LeftBy}
-use Rattle.texts.proofs.BothRead.{zeros-length, drop-zeros, endsOf, tableOf, headsOf, partsOf, leaving, refusedTexts, taken, both-are, texts-by-reading}
+use Rattle.reading.specs.declared.both.Both.{Both}
+use Rattle.reading.specs.declared.both.Both.the-variants.{Accepted as Taken}
+use Rattle.reading.proofs.BothTurns.{LeftBy}
+use Rattle.reading.proofs.BothRead.{zeros-length, drop-zeros, endsOf, tableOf, headsOf, partsOf, leaving, refusedTexts, taken, both-are, texts-by-reading}
 
 abbrev leftOf : Outcome → List ℕ → List ℕ → RunLeft
 leftOf r work d = record { answer = r; work = work; cells = d }

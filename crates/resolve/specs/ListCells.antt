@@ -7,7 +7,7 @@ use lib.ListN.{replicate}
 use Rattle.lent.specs.Storage.{zeros}
 use Rattle.syntax.specs.declared.job_ends.JobEnds.{JobEnds}
 use Rattle.syntax.specs.declared.numerals.Numerals.{Numerals}
-use Rattle.linking.specs.Linking.{programLinked}
+use Rattle.linking.specs.Linking.{programLinked, programEnd}
 use Rattle.initial.specs.Beginning.{mainBody}
 use Rattle.walk.specs.Jobs.{JobLeft, walkJob}
 use Rattle.turns.specs.declared.found.Found.{Found}
@@ -15,9 +15,9 @@ use Rattle.turns.specs.declared.found.Ending.{Ending}
 use Rattle.turns.specs.declared.found.Ending.the-variants.{Done, Over, Full, Spent}
 use Rattle.turns.specs.declared.found.Walked.{Walked}
 use Rattle.resolve.specs.ListAnswer.{ListLeft}
-use Rattle.texts.specs.BothCells.{BothAnswer, bothOver}
-use Rattle.texts.specs.declared.both.Both.{Both}
-use Rattle.texts.specs.declared.both.Both.the-variants.{Accepted, Program as OfProgram, Job as OfJob, Short as TooShort}
+use Rattle.reading.specs.BothCells.{BothAnswer, bothOver}
+use Rattle.reading.specs.declared.both.Both.{Both}
+use Rattle.reading.specs.declared.both.Both.the-variants.{Accepted, Program as OfProgram, Job as OfJob, Short as TooShort}
 use Rattle.answers.specs.ListEnding.{unstoppedAs}
 use Rattle.answers.specs.declared.list.Answer.{Answer}
 use Rattle.answers.specs.declared.list.Answer.the-variants.{Stop21, Stop22, Stop23, Program, Job, Short}
@@ -51,7 +51,7 @@ afterBoth f d TooShort = readLeft Short d
 
 -- a program of c definitions, linked, and a job
 abbrev pub walkedTexts : List ℕ → List ℕ → List ℕ → List ℕ → List ℕ → List ℕ → List ℕ → ℕ → JobEnds → Numerals → JobLeft
-walkedTexts marks nums ends heads jmarks jnums a c e k = walkJob (programLinked marks nums ends heads c (replicate 24582 0)) (mainBody marks heads) jmarks jnums e k a
+walkedTexts marks nums ends heads jmarks jnums a c e k = walkJob (programLinked marks nums ends heads c (replicate 24582 0)) (programEnd ends heads c) (mainBody marks heads) jmarks jnums e k a
 
 -- both texts as they were read
 unfoldable pub listedRead : Both → List ℕ → List ℕ → List ℕ → List ℕ → List ℕ → List ℕ → List ℕ → ReadLeft

@@ -13,9 +13,9 @@ use Rattle.forward.specs.Running.{runInputs}
 use Rattle.running.specs.declared.ran.Ran.{Ran}
 use Rattle.running.specs.declared.ran.Ran.the-variants.{Value as RanValue, Over as RanOver, NotWithin as RanNotWithin}
 use Rattle.resolve.specs.RunAnswer.{RunLeft}
-use Rattle.texts.specs.BothCells.{BothAnswer, bothOver}
-use Rattle.texts.specs.declared.both.Both.{Both}
-use Rattle.texts.specs.declared.both.Both.the-variants.{Accepted, Program as OfProgram, Job as OfJob, Short as TooShort}
+use Rattle.reading.specs.BothCells.{BothAnswer, bothOver}
+use Rattle.reading.specs.declared.both.Both.{Both}
+use Rattle.reading.specs.declared.both.Both.the-variants.{Accepted, Program as OfProgram, Job as OfJob, Short as TooShort}
 use Rattle.answers.specs.declared.run.Answer.{Answer}
 use Rattle.answers.specs.declared.run.Answer.the-variants.{Value, Over, NotWithin, Program, Job, Short}
 

@@ -5,8 +5,9 @@ use answers::list::unstopped;
 use initial::begin::main_body;
 use lent::clear::clear;
 use linking::program::link_program;
-use texts::both::Both;
-use texts::both::read_both;
+use linking::program::program_end;
+use reading::both::Both;
+use reading::both::read_both;
 use turns::found::Ending;
 use turns::found::Walked;
 use walk::job::walk_job;
@@ -66,9 +67,19 @@ pub fn list_read(
         } => {
             let mut code: [u16; 24582] = [0; 24582];
             link_program(marks, nums, ends, heads, count, &mut code);
+            let tokens = program_end(ends, heads, count);
             let body = main_body(marks, heads);
             clear(answer);
-            let walked = walk_job(&code, body, jmarks, jnums, parts, numerals, answer);
+            let walked = walk_job(
+                &mut code,
+                tokens,
+                body,
+                jmarks,
+                jnums,
+                parts,
+                numerals,
+                answer,
+            );
             came_to(walked)
         }
     }

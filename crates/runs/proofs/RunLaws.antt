@@ -16,9 +16,11 @@ use Rattle.sets.specs.Fill.{FillAnswer, fillAnswer, spread}
 use Rattle.sets.specs.declared.fill.Filled.{Filled}
 use Rattle.sets.specs.declared.fill.Filled.the-variants.{Done, Over}
 use Rattle.runs.specs.declared.run.Seen.{Seen}
-use Rattle.runs.specs.declared.run.Replaced.{Replaced}
-use Rattle.runs.specs.declared.run.Replaced.the-variants.{Over as ReplacedOver}
-use Rattle.runs.specs.Runs.{metOf, cellsAt, run, oneMore, countIn, seenIn, firstIn, lacksNext, passedAt, variableMet, anyVariable, renamedCell, spreadSize, written, appended, appendedFilled, unmoved, movedBy, replaceAnswer, movedAnswer, replaced}
+use Rattle.codes.specs.Codes.{metOf, variableMet, oneIf, renamedCell}
+use Rattle.codes.specs.Outcomes.{unmoved}
+use Rattle.codes.specs.declared.outcome.Replaced.{Replaced}
+use Rattle.codes.specs.declared.outcome.Replaced.the-variants.{Over as ReplacedOver}
+use Rattle.runs.specs.Runs.{cellsAt, run, countIn, seenIn, firstIn, lacksNext, passedAt, anyVariable, spreadSize, written, appended, appendedFilled, movedBy, replaceAnswer, movedAnswer, replaced}
 
 -- two heaps are the same below a place
 pub record Below (used : ℕ) (h g : List ℕ) : Type 0 where
@@ -203,11 +205,11 @@ module _ {used : ℕ} {h g : List ℕ} (same : Below used h g) (x vfrom vend i e
 
 -- turns of `look_through`
 module _ (x i end : ℕ) (g : List ℕ) where
-  pub count-next : (n : ℕ) → i < end → n + countIn x (run i end g) ≡ oneMore n (getD g i 0) x + countIn x (run (i + 1) end g)
+  pub count-next : (n : ℕ) → i < end → n + countIn x (run i end g) ≡ n + oneIf (getD g i 0) x + countIn x (run (i + 1) end g)
   unfolding countIn
   count-next n l = rw (run-cons i end g l) (pick (eqb (getD g i 0) x))
     where
-      pick : (b : Bool) → n + (cond b 1 0 + countIn x (run (i + 1) end g)) ≡ cond b (n + 1) n + countIn x (run (i + 1) end g)
+      pick : (b : Bool) → n + (cond b 1 0 + countIn x (run (i + 1) end g)) ≡ n + cond b 1 0 + countIn x (run (i + 1) end g)
       pick true = omega arith
       pick false = omega arith
 
@@ -215,10 +217,10 @@ module _ (x i end : ℕ) (g : List ℕ) where
   unfolding countIn
   count-end l = rw (run-end i end g l)
 
-pub one-more-least : (n c x : ℕ) → oneMore n c x ≤ n + 1
-one-more-least n c x = pick (eqb c x)
+pub one-least : (c x : ℕ) → oneIf c x ≤ 1
+one-least c x = pick (eqb c x)
   where
-    pick : (b : Bool) → cond b (n + 1) n ≤ n + 1
+    pick : (b : Bool) → cond b 1 0 ≤ 1
     pick true = omega arith
     pick false = omega arith
 

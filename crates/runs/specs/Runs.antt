@@ -5,13 +5,14 @@ use mathlib.Core.List.{List, [], _∷_}
 use lib.Dec.{eqb, ltb, leb}
 use lib.ListN.{getD, set}
 use lib.Seq.{sets}
+use Rattle.codes.specs.Outcomes.{unmoved}
+use Rattle.codes.specs.declared.outcome.Replaced.{Replaced}
+use Rattle.codes.specs.declared.outcome.Replaced.the-variants.{Done as ReplacedDone, Over as ReplacedOver}
 use Rattle.sets.specs.Cells.{pairCode, anyCell}
 use Rattle.sets.specs.Fill.{FillAnswer, fillAnswer, spread}
 use Rattle.sets.specs.declared.fill.Filled.{Filled}
 use Rattle.sets.specs.declared.fill.Filled.the-variants.{Done, Over}
 use Rattle.runs.specs.declared.run.Seen.{Seen}
-use Rattle.runs.specs.declared.run.Replaced.{Replaced}
-use Rattle.runs.specs.declared.run.Replaced.the-variants.{Closed, Open, Done as ReplacedDone, Over as ReplacedOver}
 
 -- n cells from a place on
 unfoldable pub cellsAt : ℕ → ℕ → List ℕ → List ℕ
@@ -22,24 +23,13 @@ cellsAt (suc n) i h = getD h i 0 ∷ cellsAt n (i + 1) h
 abbrev pub run : ℕ → ℕ → List ℕ → List ℕ
 run from to h = cellsAt (to - from) from h
 
--- 1 once x was met
-abbrev pub metOf : ℕ → ℕ → ℕ → ℕ
-metOf n c x = cond (eqb c x) 1 n
-
 abbrev pub standsInRun : ℕ → ℕ → ℕ → List ℕ → Bool
 standsInRun from to x h = anyCell x (run from to h)
 
 -- how often x stands in cells
-abbrev pub oneMore : ℕ → ℕ → ℕ → ℕ
-oneMore n c x = cond (eqb c x) (n + 1) n
-
 unfoldable pub countIn : ℕ → List ℕ → ℕ
 countIn x [] = 0
 countIn x (c ∷ s) = cond (eqb c x) 1 0 + countIn x s
-
--- 1 once a variable was met, whose code is 4 n + 2 or 4 n + 3
-abbrev pub variableMet : ℕ → ℕ → ℕ
-variableMet n c = cond (ltb (c % 4) 2) n 1
 
 unfoldable pub anyVariable : List ℕ → Bool
 anyVariable [] = false
@@ -62,9 +52,6 @@ lacksNext n i to x h = cond (ltb (to - i) n) false (not (standsInRun i (i + n) x
 abbrev pub passedAt : ℕ → ℕ → ℕ → List ℕ → ℕ
 passedAt i to x h = cond (lacksNext 64 i to x h) 64 (cond (lacksNext 8 i to x h) 8 0)
 
-abbrev pub renamedCell : ℕ → ℕ → ℕ → ℕ
-renamedCell c x y = cond (eqb c x) y c
-
 -- as many cells as there are when each x becomes `size` cells
 unfoldable pub spreadSize : ℕ → ℕ → List ℕ → ℕ
 spreadSize x size [] = 0
@@ -83,11 +70,6 @@ abbrev pub appendedFilled : ℕ → ℕ → ℕ → ℕ → ℕ → ℕ → List
 appendedFilled from to x vfrom vto used h =
     written used (spreadSize x (min vto used - vfrom) (run from (min to used) h))
     (spread x (run vfrom (min vto used) h) (run from (min to used) h)) h
-
--- what is left of a run that has no x
-abbrev pub unmoved : Bool → Replaced
-unmoved true = Open
-unmoved false = Closed
 
 abbrev pub movedBy : Filled → Replaced
 movedBy (Done k) = ReplacedDone k

@@ -1,4 +1,10 @@
 // Runs of the heap. What is made is written at `used` and behind it, so that every range below stays as it is.
+use codes::code::met;
+use codes::code::met_variable;
+use codes::code::one_if;
+use codes::code::renamed;
+use codes::outcome::Replaced;
+use codes::outcome::without;
 use sets::cell;
 use sets::fill::Filled;
 ghost use mathlib.Core.Path.{_≡_};
@@ -6,17 +12,10 @@ ghost use mathlib.Core.List.{_∷_, []};
 ghost use Prim.Native.Nat.{min, _+_, _-_, _*_, _≤_, _<_};
 ghost use lib.Seq.{sets};
 ghost use Rattle.sets.specs.Fill.{fillAnswer, spread};
-ghost use Rattle.runs.specs.Runs.{metOf, standsInRun, run, oneMore, countIn, variableMet, seenIn, lacksNext, passedAt, firstIn, renamedCell, spreadSize, appended, appendedFilled, unmoved, movedBy, replaceAnswer, replaced, appendedPair};
+ghost use Rattle.runs.specs.Runs.{standsInRun, run, countIn, seenIn, lacksNext, passedAt, firstIn, spreadSize, appended, appendedFilled, movedBy, replaceAnswer, replaced, appendedPair};
 
 // The cells of the heap.
 pub const SIZE: usize = 65535;
-
-// 1 once x was met.
-fn met(n: u16, code: u16, x: u16) -> u16
-    ensures { λ r. ⌜ r ≡ metOf n code x ⌝ }
-{
-    if code == x { 1 } else { n }
-}
 
 // Whether x stands in a run. Every cell is looked at, with no way out before the last: the compiler then compares many at once.
 fn stands_below(heap: &[u16; 65535], from: usize, to: usize, x: u16) -> bool
@@ -30,21 +29,6 @@ fn stands_below(heap: &[u16; 65535], from: usize, to: usize, x: u16) -> bool
         i += 1;
     }
     n == 1
-}
-
-// 1 once a variable was met.
-fn met_variable(n: u16, code: u16) -> u16
-    ensures { λ r. ⌜ r ≡ variableMet n code ⌝ }
-{
-    if code % 4 < 2 { n } else { 1 }
-}
-
-// One more where the cell is x.
-fn one_more(n: u16, code: u16, x: u16) -> u16
-    requires { ⌜ n < 65535 ⌝ }
-    ensures { λ r. ⌜ r ≡ oneMore n code x ⌝ }
-{
-    if code == x { n + 1 } else { n }
 }
 
 // How often x stands in a run, and whether any variable does.
@@ -61,7 +45,7 @@ fn look_through(heap: &[u16; 65535], from: usize, to: usize, x: u16) -> Seen
     let mut v: u16 = 0;
     let mut i = from;
     while i < to {
-        n = one_more(n, heap[i], x);
+        n += one_if(heap[i], x);
         v = met_variable(v, heap[i]);
         i += 1;
     }
@@ -152,13 +136,6 @@ pub fn append(heap: &mut [u16; 65535], from: usize, to: usize, used: usize) -> F
     Filled::Done(used + size)
 }
 
-// The cell with y in the place of x.
-fn renamed(code: u16, x: u16, y: u16) -> u16
-    ensures { λ r. ⌜ r ≡ renamedCell code x y ⌝ }
-{
-    if code == x { y } else { code }
-}
-
 // The run with y in the place of each x, at `used`.
 fn rename(heap: &mut [u16; 65535], from: usize, end: usize, x: u16, y: u16, used: usize)
     requires { ⌜ (end ≤ used) × (used + (end - from) ≤ 65535) ⌝ }
@@ -229,25 +206,6 @@ fn append_filled(
     }
     fill(heap, from, end, x, start, vend, used);
     Filled::Done(used + all)
-}
-
-// What became of a run in which x was to be replaced. Closed: no variable stands in it. Open: x does not, another may. Done: it stands filled behind what
-// was used, and this is used now. Over: there is no room for it.
-pub enum Replaced {
-    Closed,
-    Open,
-    Done(usize),
-    Over,
-}
-
-fn without(variables: bool) -> Replaced
-    ensures { λ r. ⌜ r ≡ unmoved variables ⌝ }
-{
-    if variables {
-        Replaced::Open
-    } else {
-        Replaced::Closed
-    }
 }
 
 fn moved_by(w: Filled) -> Replaced

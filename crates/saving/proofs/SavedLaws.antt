@@ -1,5 +1,5 @@
 -- What `older_used` and `save` mean: of the records that are held the newer ones may be forgotten, and one more is held, or not.
-use Prim.Native.Nat.{ℕ, zero, suc, _+_, _-_, _*_, _≤_, _<_, min}
+use Prim.Native.Nat.{ℕ, zero, suc, _+_, _-_, _/_, _≤_, _<_, min}
 use mathlib.Core.Path.{_≡_, refl, ap, _∙_, sym as inv}
 use mathlib.Core.Bool.{Bool, true, false, cond, _&&_}
 use mathlib.Core.List.{List, [], _∷_, _++_}
@@ -87,7 +87,7 @@ module _ {s : List ℕ} {top : ℕ} {rs : List Record} (x : Holding s top rs) (m
   unfolding allowedAt
   allowed-most t = pick (ltb (min (depthAt s (beginsAt s t)) 65535 + 8) (depthAt s t))
     where
-      pick : (b : Bool) → cond b (2 * min 16384 65535) (min 16384 65535) ≤ 32768
+      pick : (b : Bool) → cond b (min 16384 65535 + min 16384 65535 / 2) (min 16384 65535) ≤ 32768
       pick true = omega arith
       pick false = omega arith
 

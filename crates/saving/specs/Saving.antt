@@ -1,5 +1,5 @@
 -- Saving and going back, for cells of any content.
-use Prim.Native.Nat.{ℕ, zero, suc, _+_, _-_, _*_, min}
+use Prim.Native.Nat.{ℕ, zero, suc, _+_, _-_, _/_, min}
 use mathlib.Core.Bool.{Bool, cond, _&&_}
 use mathlib.Core.List.{List}
 use lib.Dec.{leb, ltb}
@@ -17,9 +17,9 @@ stored f q n at s =
     headStored n (min at 16384 + entryCells (n .at .entries) + sideCells (n .at .neqs))
     (copied q 0 (sideCells (n .at .neqs)) (copied f 0 (entryCells (n .at .entries)) s (min at 16384) .cells) (min at 16384 + entryCells (n .at .entries)) .cells)
 
--- twice as much where many choices lie between a record and the one before it
+-- half as much again where many choices lie between a record and the one before it
 unfoldable pub allowedAt : List ℕ → ℕ → ℕ → ℕ
-allowedAt s used t = cond (ltb (min (depthAt s (beginsAt s t)) 65535 + 8) (depthAt s t)) (2 * min used 65535) (min used 65535)
+allowedAt s used t = cond (ltb (min (depthAt s (beginsAt s t)) 65535 + 8) (depthAt s t)) (min used 65535 + min used 65535 / 2) (min used 65535)
 
 abbrev pub isLow : List ℕ → ℕ → ℕ → ℕ → Bool
 isLow s size used t = leb t size && leb (usedAt s t) (allowedAt s used t)

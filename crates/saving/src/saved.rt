@@ -10,7 +10,7 @@ ghost use Rattle.saving.specs.Saving.{sizeOf, stored, allowedAt, isLow, 
 // Where this storage is full, the records stay that end in its first half.
 const HALF: usize = 8192;
 
-// Where the heap is full, those stay that have at most a quarter of it in use, or half of it where the records before them were forgotten.
+// Where the heap is full, those stay that have at most a quarter of it in use, or half as much again where the records before them were forgotten.
 const QUARTER: usize = 16384;
 
 // Between two records that follow each other in storage there are at most so many choices, unless those between were forgotten.
@@ -48,7 +48,7 @@ fn store(frame: &[u16; 12360], q: &[u16; 4096], saved: &mut [u16; 16384], n: Nod
     head::store_head(saved, n, h);
 }
 
-// How much of the heap the record that ends at t may have in use where others may `used`: twice as much where many choices lie between it and the one
+// How much of the heap the record that ends at t may have in use where others may `used`: half as much again where many choices lie between it and the one
 // before it. Of a long path a record stays each time that newer ones are forgotten, and going back works out what lies between two of them, not all again.
 fn allowed(saved: &[u16; 16384], t: usize, used: usize) -> usize
     ensures { λ r. ⌜ r ≡ allowedAt (now (saved .entry)) used t ⌝ }
@@ -56,7 +56,7 @@ fn allowed(saved: &[u16; 16384], t: usize, used: usize) -> usize
     let n = cell::least(used, ALL);
     let before = head::depth_at(saved, head::begins_at(saved, t));
     if cell::least(before, ALL) + GAP < head::depth_at(saved, t) {
-        return 2 * n;
+        return n + n / 2;
     }
     n
 }

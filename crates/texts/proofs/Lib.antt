@@ -1,4 +1,2 @@
 pub mod ReadLaws
 pub mod Reading
-pub mod BothTurns
-pub mod BothRead

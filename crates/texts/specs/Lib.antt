@@ -1,2 +1,1 @@
 pub mod ReadCells
-pub mod BothCells

@@ -1,5 +1,4 @@
-// The two texts of 01 read and checked into lent storage ("Texts", "From the input"): what they mean is defined in the crate `language`, and
-// what the functions over storage come to in specs/.
-pub mod both;
+// A text of 01 read and checked into lent storage ("Texts", "From the input"): what texts mean is defined in the crate `language`,
+// and what the functions over storage come to in specs/.
 pub mod read_job;
 pub mod read_program;

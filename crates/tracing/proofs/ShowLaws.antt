@@ -28,10 +28,10 @@ use Rattle.linking.specs.Code.{link, linkAt}
 use Rattle.linking.specs.Linked.{symLinked, eLinked, aLinked, consLinked, TermLinked, callLinked, sameLinked, testLinked, resultLinked, ProgramLinked}
 use Rattle.constants.proofs.ConstantLaws.{Constants}
 use Rattle.values.specs.Names.{namesFrom}
-use Rattle.values.specs.Calls.{calledTo}
+use Rattle.calls.specs.Calls.{calledTo}
 use Rattle.values.proofs.StateLaws.{isNone, HoldsPair, Stands, Leads}
 use Rattle.values.proofs.PairLaws.{base-is, entries-few, entries-are}
-use Rattle.values.proofs.CallLeads.{call-leads}
+use Rattle.calls.proofs.CallLeads.{call-leads}
 use Rattle.atoms.specs.Atoms.{sidesAt}
 use Rattle.atoms.proofs.AtomLaws.{sideOf, sides-mean}
 use Rattle.atoms.proofs.BranchLaws.{branches-mean}

@@ -8,7 +8,7 @@ use Rattle.heap.specs.declared.configuration.Branches.{Branches}
 use Rattle.heap.specs.declared.configuration.Configuration.{Configuration}
 use Rattle.heap.specs.declared.configuration.Moved.the-variants.{Over}
 use Rattle.linking.specs.Code.{linkAt}
-use Rattle.values.specs.Calls.{calledTo}
+use Rattle.calls.specs.Calls.{calledTo}
 use Rattle.values.specs.Names.{namesFrom}
 use Rattle.atoms.specs.Atoms.{sidesAt}
 use Rattle.atoms.specs.Choices.{branchesOf as branchesSame}

@@ -2,11 +2,11 @@
 use crate::ask::Asked;
 use atoms::take::take_equal;
 use atoms::take::take_unequal;
+use calls::call::call;
 use heap::configuration::Configuration;
 use heap::configuration::Moved;
 use pairs::branch::take_false;
 use pairs::branch::take_true;
-use values::call::call;
 use values::names::names_from;
 ghost use mathlib.Core.Path.{_≡_};
 ghost use mathlib.Core.Bool.{Bool};

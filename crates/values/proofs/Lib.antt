@@ -1,12 +1,9 @@
 pub mod ValueTurns
 pub mod ValueLaws
-pub mod ArgumentTurns
 pub mod RoomLaws
-pub mod ArgumentLaws
-pub mod CallLaws
 pub mod BindLaws
 pub mod StateLaws
 pub mod SizeLaws
 pub mod PairLaws
-pub mod CallLeads
+pub mod BodyLaws
 pub mod ContractionLaws

@@ -31,8 +31,7 @@ use Rattle.heap.proofs.FrameLaws.{Held}
 use Rattle.heap.proofs.PartLaws.{nodes-joined}
 use Rattle.linking.specs.Linked.{placeIn, TermLinked}
 use Rattle.linking.specs.Places.{envOf}
-use Rattle.values.proofs.ValueLaws.{Typed, noneTyped, eTyped, aTyped, Known}
-use Rattle.values.proofs.ArgumentLaws.{AllKnown}
+use Rattle.values.proofs.ValueLaws.{Typed, noneTyped, eTyped, aTyped, Known, AllKnown}
 
 -- "A branch that contradicts is no transition."
 abbrev pub isNone : {A : Type 0} → Option A → Bool

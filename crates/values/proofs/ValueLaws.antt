@@ -74,6 +74,10 @@ Known sc (atm (avar x)) = placeIn (pa x) sc < length sc
 Known sc (evar x) = placeIn (pe x) sc < length sc
 Known sc (pair c d) = Known sc c × Known sc d
 
+abbrev pub AllKnown : List Param → List Exp → Type 0
+AllKnown sc [] = Unit {0}
+AllKnown sc (c ∷ cs) = Known sc c × AllKnown sc cs
+
 pub atom-typed : {sc : List Param} {vs : List Exp} (d : Exp) (x : ℕ) → Typed sc vs → placeIn (pa x) sc < length sc → atm (atomOf (getD vs (placeIn (pa x) sc) d)) ≡ getD vs (placeIn (pa x) sc) d
 atom-typed d x noneTyped l = let z : ⊥ = omega arith in absurd z
 atom-typed d x (eTyped t) l = atom-typed d x t (omega arith)

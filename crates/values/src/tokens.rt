@@ -13,7 +13,7 @@ ghost use Rattle.runs.specs.Runs.{written};
 ghost use Rattle.values.specs.Values.{entryAt, placeAt, tokenWritten, tokensWritten};
 
 // Where an entry's value stands, and what is known of it.
-pub(crate) struct Place {
+pub struct Place {
     pub from: usize,
     pub to: usize,
     pub known: u16,
@@ -26,7 +26,7 @@ fn wide(x: u16) -> usize
 }
 
 // The entry i; nothing past the last one.
-pub(crate) fn entry_at(frame: &[u16; 12360], i: usize) -> Place
+pub fn entry_at(frame: &[u16; 12360], i: usize) -> Place
     ensures { λ r. ⌜ r ≡ entryAt (now (frame .entry)) i ⌝ }
 {
     if i < 4120 {
@@ -47,7 +47,7 @@ pub(crate) fn entry_at(frame: &[u16; 12360], i: usize) -> Place
 }
 
 // The entry of the name with this place, the names' entries from `base` on.
-pub(crate) fn place_at(base: usize, place: u16) -> usize
+pub fn place_at(base: usize, place: u16) -> usize
     ensures { λ r. ⌜ r ≡ placeAt base place ⌝ }
 {
     cell::least(base, 4120) + wide(place)

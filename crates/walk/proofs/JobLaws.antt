@@ -28,7 +28,7 @@ use Rattle.linking.specs.Code.{linkAt}
 use Rattle.linking.specs.Linked.{BodiesLinked, noBodies, moreBodies}
 use Rattle.linking.proofs.AgreeLaws.{term-agrees}
 use Rattle.constants.specs.Laying.{ConstantsLeft, constantsLaid}
-use Rattle.constants.proofs.ConstantLaws.{Constants, Kept, constants-held, constants-kept}
+use Rattle.constants.proofs.ConstantLaws.{Constants, NoConstants, Kept, constants-held, constants-kept}
 use Rattle.saving.specs.Saving.{sizeOf, SaveLeft, savedTo}
 use Rattle.saving.specs.Records.{Record, recordOf, recordCells, Fits, Holding}
 use Rattle.saving.specs.declared.head.Node.{Node as Saved}
@@ -277,14 +277,14 @@ bodies-agree : {p : Prog} {bodies : ℕ → ℕ} {code g : List ℕ} {f : ℕ} {
 bodies-agree e noBodies = noBodies
 bodies-agree {p} {bodies} {code} e (moreBodies t r) = moreBodies (term-agrees p bodies code t (record { same = λ j l m. e j })) (bodies-agree e r)
 
-module _ (p : Prog) (bodies : ℕ → ℕ) (code : List ℕ) (ok : Accepted p bodies code) (wide : length code ≡ 24582) (K₀ : Configuration) (main : successors p K₀ ≡ called (inMain p K₀)) (w : BegunLeft) (b : Begins p bodies code (inMain p K₀) w)
+module _ (p : Prog) (bodies : ℕ → ℕ) (code : List ℕ) (count : ℕ) (ok : Accepted p bodies code) (empty : NoConstants code) (wide : length code ≡ 24582) (K₀ : Configuration) (main : successors p K₀ ≡ called (inMain p K₀)) (w : BegunLeft) (b : Begins p bodies code (inMain p K₀) w)
     (lim : Limits) (few-lines : lim .table ≤ 256) (few-steps : lim .walk ≤ 1000000) (N : ℕ) (most : N ≤ 1000) (k : Numerals) (of-steps : k .steps ≡ N) (of-walk : k .walk ≡ lim .walk) (of-table : k .table ≡ lim .table) (place : b .at .place < 65536)
     (sound-all : (bs : List Bool) (m : ℕ) (y : Node) → Reaches p Small N (root K₀) bs m y → Sound p (y .conf) × Scoped p (y .conf)) (a : List ℕ) (lines : LinesHeld [] 0 a (nothingFound .lines)) (long : answerRoom ≤ length a) where
   abbrev laid : ConstantsLeft
-  laid = constantsLaid (b .at .used) code (w .heap)
+  laid = constantsLaid count (b .at .used) code (w .heap)
 
-  kept : Kept (b .at .used) code (w .heap) wide (b .stands .holds .heap-size)
-  kept = constants-kept (b .at .used) code (w .heap) wide (b .stands .holds .heap-size)
+  kept : Kept count (b .at .used) code (w .heap) wide (b .stands .holds .heap-size)
+  kept = constants-kept count (b .at .used) code (w .heap) wide (b .stands .holds .heap-size)
 
   accepted : Accepted p bodies (laid .code)
   accepted = record { linked = bodies-agree (kept .links) (ok .linked); formed = ok .formed; few = ok .few }
@@ -315,7 +315,7 @@ module _ (p : Prog) (bodies : ℕ → ℕ) (code : List ℕ) (ok : Accepted p bo
       }
 
   -- THE LAW of the walk of a job
-  pub begun-means : Leaves (walkedOf (walkBackFrom p lim N (some K₀))) (onBegun code k a w (w .answer))
+  pub begun-means : Leaves (walkedOf (walkBackFrom p lim N (some K₀))) (onBegun code count k a w (w .answer))
   begun-means =
       rw (b .on) (laid-means p bodies (laid .code) accepted K₀ main (begunLeft (On (withUsed (b .at) (laid .used))) (laid .heap) (w .frame) (w .q)) (withUsed (b .at) (laid .used)) stands-laid
-      (constants-held (b .at .used) code (w .heap) wide (b .stands .holds .heap-size)) (omega (arith, kept .most, b .few)) lim few-lines few-steps N most k of-steps of-walk of-table place sound-all a lines long)
+      (constants-held count (b .at .used) code (w .heap) wide (b .stands .holds .heap-size) empty) (omega (arith, kept .most, b .few)) lim few-lines few-steps N most k of-steps of-walk of-table place sound-all a lines long)

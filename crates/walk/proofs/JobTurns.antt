@@ -1,6 +1,6 @@
 -- The walk of a job: what is left behind each way that it begins.
 use Prim.Native.Nat.{ℕ}
-use mathlib.Core.Path.{_≡_, ap, _∙_, sym as inv}
+use mathlib.Core.Path.{_≡_, ap, ap₂, _∙_, sym as inv}
 use mathlib.Core.Bool.{false}
 use mathlib.Core.List.{List}
 use lib.ListN.{replicate}
@@ -16,7 +16,7 @@ use Rattle.initial.specs.declared.begin.Begun.the-variants.{On, None, Over as B
 use Rattle.turns.specs.Finding.{walked, nothingFound, counted}
 use Rattle.turns.specs.States.{stateAt}
 use Rattle.walk.specs.Walking.{walkedLeft, walkedOn}
-use Rattle.walk.specs.Jobs.{jobLeft, boundsOf, firstNode, ofWalk, walkSaved, walkFirst, walkBegun, onBegun, walkJob}
+use Rattle.walk.specs.Jobs.{jobLeft, boundsOf, firstNode, ofWalk, walkSaved, walkFirst, walkBegun, onBegun, walkJob, codeBegun, codeLaid, JobLeft, jobLaid, walkLaid}
 use Rattle.turns.specs.declared.found.Found.{Found}
 use Rattle.turns.specs.declared.found.Ending.the-variants.{Done, Over}
 use Rattle.turns.specs.declared.found.Walked.{Walked}
@@ -32,21 +32,30 @@ first-walks code c k h f q a {top} {saved} {n} {o} {s} kept e d at w =
     let t = at ∙ ap (stateAt (record { node = firstNode c; top = top })) g in
     ap ofWalk w ∙ ap (λ (z : State). ofWalk (walkedOn code (boundsOf k top) z h f q (replicate 1000 0) saved a)) t ∙ ap (walkSaved code c k h f q a) kept
 
-module _ (code : List ℕ) (body : ℕ) (jmarks jnums : List ℕ) (e : JobEnds) (k : Numerals) (a : List ℕ) {b : Begun} {h f q : List ℕ}
+module _ (code : List ℕ) (count body : ℕ) (jmarks jnums : List ℕ) (e : JobEnds) (k : Numerals) (a : List ℕ) {b : Begun} {h f q : List ℕ}
     (is : begunLeft b h f q ≡ begunAt body jmarks jnums e false (replicate 65535 0) (replicate 12360 0) (replicate 4096 0)) where
-  begun-as : onBegun code k a (begunLeft b h f q) b ≡ walkJob code body jmarks jnums e k a
+  begun-as : onBegun code count k a (begunLeft b h f q) b ≡ walkJob code count body jmarks jnums e k a
   unfolding walkJob
-  begun-as = ap (λ (w : BegunLeft). onBegun code k a w (w .answer)) is
+  begun-as = ap (λ (w : BegunLeft). onBegun code count k a w (w .answer)) is
 
-  answered-as : (x : Begun) → b ≡ x → onBegun code k a (begunLeft b h f q) x ≡ walkJob code body jmarks jnums e k a
-  answered-as x i = ap (onBegun code k a (begunLeft b h f q)) (inv i) ∙ begun-as
+  answered-as : (x : Begun) → b ≡ x → onBegun code count k a (begunLeft b h f q) x ≡ walkJob code count body jmarks jnums e k a
+  answered-as x i = ap (onBegun code count k a (begunLeft b h f q)) (inv i) ∙ begun-as
 
-  pub job-on : {c d : Configuration} {r : Walked} {a′ : List ℕ} {u : ℕ} {g l : List ℕ} → b ≡ On c → constantsLeft u g l ≡ constantsLaid (c .used) code h → d ≡ withUsed c u → jobLeft r a′ ≡ walkBegun g d k l f q a → jobLeft r a′ ≡ walkJob code body jmarks jnums e k a
+  code-as : (x : Begun) → b ≡ x → codeBegun code count (begunLeft b h f q) x ≡ codeLaid code count body jmarks jnums e
+  unfolding codeLaid
+  code-as x i = ap (codeBegun code count (begunLeft b h f q)) (inv i) ∙ ap (λ (w : BegunLeft). codeBegun code count w (w .answer)) is
+
+  both-as : {l : JobLeft} {g : List ℕ} → l ≡ walkJob code count body jmarks jnums e k a → g ≡ codeLaid code count body jmarks jnums e → jobLaid l g ≡ walkLaid code count body jmarks jnums e k a
+  both-as u v = ap₂ jobLaid u v
+
+  pub job-on : {c d : Configuration} {r : Walked} {a′ : List ℕ} {u : ℕ} {g l : List ℕ} → b ≡ On c → constantsLeft u g l ≡ constantsLaid count (c .used) code h → d ≡ withUsed c u → jobLeft r a′ ≡ walkBegun g d k l f q a →
+      jobLaid (jobLeft r a′) g ≡ walkLaid code count body jmarks jnums e k a
   job-on {c} {d} {u = u} {g = g} {l = l} i z m w =
-      w ∙ ap (λ (x : Configuration). walkBegun g x k l f q a) m ∙ ap (λ (x : ConstantsLeft). walkBegun (x .code) (withUsed c (x .used)) k (x .heap) f q a) z ∙ answered-as (On c) i
+      both-as (w ∙ ap (λ (x : Configuration). walkBegun g x k l f q a) m ∙ ap (λ (x : ConstantsLeft). walkBegun (x .code) (withUsed c (x .used)) k (x .heap) f q a) z ∙ answered-as (On c) i)
+      (ap (λ (x : ConstantsLeft). x .code) z ∙ code-as (On c) i)
 
-  pub job-none : {n : Found} {r : Walked} → b ≡ None → n ≡ nothingFound → r ≡ walked Done n → jobLeft r a ≡ walkJob code body jmarks jnums e k a
-  job-none i g w = ap (λ (r : Walked). jobLeft r a) (w ∙ ap (walked Done) g) ∙ answered-as None i
+  pub job-none : {n : Found} {r : Walked} → b ≡ None → n ≡ nothingFound → r ≡ walked Done n → jobLaid (jobLeft r a) code ≡ walkLaid code count body jmarks jnums e k a
+  job-none i g w = both-as (ap (λ (r : Walked). jobLeft r a) (w ∙ ap (walked Done) g) ∙ answered-as None i) (code-as None i)
 
-  pub job-over : {n : Found} {r : Walked} → b ≡ BegunOver → n ≡ nothingFound → r ≡ walked Over n → jobLeft r a ≡ walkJob code body jmarks jnums e k a
-  job-over i g w = ap (λ (r : Walked). jobLeft r a) (w ∙ ap (walked Over) g) ∙ answered-as BegunOver i
+  pub job-over : {n : Found} {r : Walked} → b ≡ BegunOver → n ≡ nothingFound → r ≡ walked Over n → jobLaid (jobLeft r a) code ≡ walkLaid code count body jmarks jnums e k a
+  job-over i g w = both-as (ap (λ (r : Walked). jobLeft r a) (w ∙ ap (walked Over) g) ∙ answered-as BegunOver i) (code-as BegunOver i)

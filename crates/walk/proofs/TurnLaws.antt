@@ -33,7 +33,7 @@ use Rattle.heap.specs.declared.configuration.Configuration.{Configuration as In
 use Rattle.saving.specs.Records.{Record, recordCells}
 use Rattle.saving.specs.Saving.{SaveLeft}
 use Rattle.values.specs.Names.{namesFrom}
-use Rattle.values.specs.Calls.{calledTo}
+use Rattle.calls.specs.Calls.{calledTo}
 use Rattle.values.proofs.StateLaws.{isNone, Leads}
 use Rattle.atoms.specs.Atoms.{sidesAt}
 use Rattle.atoms.specs.Choices.{branchesBy, branchesOf as branchesSame}

@@ -52,11 +52,31 @@ walkBegun code c k h f q a =
     cond (ltb 4096 (keptNodes (c .entries) (c .neqs) f)) (jobLeft (walked Over nothingFound) a)
     (cond (eqb (k .steps) 0) (jobLeft (walked Done (cutOff nothingFound)) a) (cond (eqb (k .walk) 0) (jobLeft (walked Spent nothingFound) a) (walkFirst code c k h f q a)))
 
-abbrev pub onBegun : List ℕ → Numerals → List ℕ → BegunLeft → Begun → JobLeft
-onBegun code k a w (On c) = let l = constantsLaid (c .used) code (w .heap) in walkBegun (l .code) (withUsed c (l .used)) k (l .heap) (w .frame) (w .q) a
-onBegun code k a w None = jobLeft (walked Done nothingFound) a
-onBegun code k a w BegunOver = jobLeft (walked Over nothingFound) a
+abbrev pub onBegun : List ℕ → ℕ → Numerals → List ℕ → BegunLeft → Begun → JobLeft
+onBegun code count k a w (On c) = let l = constantsLaid count (c .used) code (w .heap) in walkBegun (l .code) (withUsed c (l .used)) k (l .heap) (w .frame) (w .q) a
+onBegun code count k a w None = jobLeft (walked Done nothingFound) a
+onBegun code count k a w BegunOver = jobLeft (walked Over nothingFound) a
 
-unfoldable pub walkJob : List ℕ → ℕ → List ℕ → List ℕ → JobEnds → Numerals → List ℕ → JobLeft
-walkJob code body jmarks jnums parts k a =
-    let w = begunAt body jmarks jnums parts false (replicate 65535 0) (replicate 12360 0) (replicate 4096 0) in onBegun code k a w (w .answer)
+unfoldable pub walkJob : List ℕ → ℕ → ℕ → List ℕ → List ℕ → JobEnds → Numerals → List ℕ → JobLeft
+walkJob code count body jmarks jnums parts k a =
+    let w = begunAt body jmarks jnums parts false (replicate 65535 0) (replicate 12360 0) (replicate 4096 0) in onBegun code count k a w (w .answer)
+
+-- where the constants stand: in the program as it was, unless the walk begins
+abbrev pub codeBegun : List ℕ → ℕ → BegunLeft → Begun → List ℕ
+codeBegun code count w (On c) = constantsLaid count (c .used) code (w .heap) .code
+codeBegun code count w None = code
+codeBegun code count w BegunOver = code
+
+unfoldable pub codeLaid : List ℕ → ℕ → ℕ → List ℕ → List ℕ → JobEnds → List ℕ
+codeLaid code count body jmarks jnums parts =
+    let w = begunAt body jmarks jnums parts false (replicate 65535 0) (replicate 12360 0) (replicate 4096 0) in codeBegun code count w (w .answer)
+
+pub record JobLaid : Type 0 where
+  pub left : JobLeft
+  pub code : List ℕ
+
+abbrev pub jobLaid : JobLeft → List ℕ → JobLaid
+jobLaid w code = record { left = w; code = code }
+
+abbrev pub walkLaid : List ℕ → ℕ → ℕ → List ℕ → List ℕ → JobEnds → Numerals → List ℕ → JobLaid
+walkLaid code count body jmarks jnums parts k a = jobLaid (walkJob code count body jmarks jnums parts k a) (codeLaid code count body jmarks jnums parts)

@@ -9,7 +9,7 @@ use Rattle.heap.specs.declared.configuration.Moved.{Moved}
 use Rattle.heap.specs.declared.configuration.Moved.the-variants.{On as MovedOn, Contradiction, Over as MovedOver}
 use Rattle.values.specs.Names.{namesFrom}
 use Rattle.values.specs.Sizes.{sizedAs}
-use Rattle.values.specs.Calls.{calledTo}
+use Rattle.calls.specs.Calls.{calledTo}
 use Rattle.tracing.specs.Asking.{AskLeft, askedAt, branchesAsked, takenAs}
 use Rattle.tracing.specs.declared.ask.Asked.{Asked}
 use Rattle.trails.specs.TrailCells.{pushed}

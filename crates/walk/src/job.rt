@@ -19,7 +19,7 @@ use turns::found::nothing;
 use turns::state::state_at;
 use values::size::kept_nodes;
 ghost use mathlib.Core.Path.{_≡_};
-ghost use Rattle.walk.specs.Jobs.{jobLeft, walkFirst, walkBegun, walkJob};
+ghost use Rattle.walk.specs.Jobs.{jobLeft, walkFirst, walkBegun, jobLaid, walkLaid};
 
 // The walk behind the first transition, which leads to c and counts: c is saved below all others.
 fn walk_first(
@@ -75,9 +75,11 @@ fn walk_begun(
     walk_first(code, heap, frame, q, answer, c, k)
 }
 
-// "A contradictory job has no start: whole, no lines, 0 transitions." The constants are laid out behind the job, in a program of the walk's own.
+// "A contradictory job has no start: whole, no lines, 0 transitions." The constants of the program, which has `count` tokens, are laid out behind the job, and
+// `code` says where.
 pub fn walk_job(
-    code: &[u16; 24582],
+    code: &mut [u16; 24582],
+    count: usize,
     body: usize,
     jmarks: &[u16],
     jnums: &[u16],
@@ -85,7 +87,7 @@ pub fn walk_job(
     k: Numerals,
     answer: &mut [u16],
 ) -> Walked
-    ensures { λ r. ⌜ jobLeft r (now (answer .exit)) ≡ walkJob (now (code .entry)) body (now (jmarks .entry)) (now (jnums .entry)) parts k (now (answer .entry)) ⌝ }
+    ensures { λ r. ⌜ jobLaid (jobLeft r (now (answer .exit))) (now (code .exit)) ≡ walkLaid (now (code .entry)) count body (now (jmarks .entry)) (now (jnums .entry)) parts k (now (answer .entry)) ⌝ }
 {
     let mut heap: [u16; 65535] = [0; 65535];
     let mut frame: [u16; 12360] = [0; 12360];
@@ -102,10 +104,9 @@ pub fn walk_job(
     );
     match b {
         Begun::On(c) => {
-            let mut linked = *code;
-            let used = lay_constants(&mut linked, &mut heap, c.used);
+            let used = lay_constants(code, &mut heap, c.used, count);
             walk_begun(
-                &linked,
+                code,
                 &mut heap,
                 &mut frame,
                 &mut q,

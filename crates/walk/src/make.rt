@@ -1,4 +1,5 @@
 // A transition made: of a call, or of a condition by the branch that is taken first.
+use calls::call::call;
 use heap::configuration::Branches;
 use heap::configuration::Configuration;
 use heap::configuration::Moved;
@@ -19,7 +20,6 @@ use turns::state::State;
 use turns::state::Turn;
 use turns::state::after_move;
 use turns::state::state_at;
-use values::call::call;
 use values::names::names_from;
 use values::size::sized;
 ghost use mathlib.Core.Path.{_≡_};

@@ -12,6 +12,12 @@ ghost use Rattle.window.specs.Sink.{sink, puts};
 ghost use Rattle.window.specs.TreeText.{symbolText};
 ghost use Rattle.writer.specs.LineText.{pastAt, bindingAt, bindingText, bindingsText};
 
+// The line's cells `start` up to `end`.
+struct Span {
+    start: usize,
+    end: usize,
+}
+
 // Where the line goes on behind what stands at k beside the job's cell c.
 fn past(c: u16, line: &[u16], k: usize) -> usize
     ensures { λ r. ⌜ r ≡ pastAt c (now (line .entry)) k ⌝ }
@@ -42,7 +48,7 @@ fn put_bound(
     put_tree(out, t, program, job, symbols, part(line, k, end))
 }
 
-// The binding of the job's cell i, if it is a variable that stands here first and is bound.
+// The binding of the job's cell i, if it is a variable that stands here first and is bound; beside it stands `value` of the line.
 fn put_binding(
     out: &mut [u8],
     place: Place,
@@ -52,11 +58,12 @@ fn put_binding(
     io: &[u16],
     i: usize,
     line: &[u16],
-    k: usize,
-    end: usize,
+    value: Span,
 ) -> Place
-    ensures { λ r. ⌜ sink r (now (out .exit)) ≡ puts (sink place (now (out .entry))) (bindingAt (symbolText (now (program .entry)) (now (job .entry)) (now (symbols .entry))) (now (io .entry)) i (now (line .entry)) k end) ⌝ }
+    ensures { λ r. ⌜ sink r (now (out .exit)) ≡ puts (sink place (now (out .entry))) (bindingAt (symbolText (now (program .entry)) (now (job .entry)) (now (symbols .entry))) (now (io .entry)) i (now (line .entry)) (value .start) (value .end)) ⌝ }
 {
+    let k = value.start;
+    let end = value.end;
     let c = cell::cell(io, i);
     if c % 4 < 2 {
         return place;
@@ -86,7 +93,8 @@ pub fn put_bindings(
     let mut k: usize = 0;
     while i < io.len() {
         let end = past(io[i], line, k);
-        p = put_binding(out, p, program, job, symbols, io, i, line, k, end);
+        let value = Span { start: k, end };
+        p = put_binding(out, p, program, job, symbols, io, i, line, value);
         k = end;
         i += 1;
     }

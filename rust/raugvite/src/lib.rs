@@ -2,11 +2,13 @@
 //!
 //! [`list`] gives the listing of a program and a job with its lines as owned expressions, [`run`] the program run forwards on the job's inputs.
 //! [`list_in`], [`list_print_in`] and [`run_in`] work in storage that the caller lends. All of them end for any bytes and any storage; what is
-//! proved of them is in docs/CONTRACTS.md, and what the boundary adds in docs/TRUST.md. A call takes up to 400 KB of stack; a thread that Rust
+//! proved of them is in docs/CONTRACTS.md, and what the boundary adds in docs/TRUST.md. A call takes up to 330 KB of stack; a thread that Rust
 //! starts has 2 MB.
 mod cells;
 mod symbols;
 mod sys;
+
+use std::cell::RefCell;
 
 pub use cells::{Expression, Line};
 
@@ -154,24 +156,36 @@ fn lines_in(said: Listed) -> usize {
 // Most listings are no longer; those that are have the rest printed behind it.
 const FIRST: usize = 4096;
 
+struct Lent {
+    work: Vec<u16>,
+    answer: Vec<u16>,
+    page: Vec<u8>,
+}
+
+thread_local! {
+    // One listing after another is made in it: what storage held before a call does not matter, so none is made and cleared for each.
+    static LENT: RefCell<Lent> = RefCell::new(lent());
+}
+
+fn lent() -> Lent {
+    let (work, answer) = list_lengths();
+    Lent { work: vec![0; work], answer: vec![0; answer], page: vec![0; FIRST] }
+}
+
 /// The listing of a program and a job.
 pub fn list(program: &[u8], job: &[u8]) -> Listing {
-    let (w, a) = list_lengths();
-    let (mut work, mut answer, mut text) = (vec![0; w], vec![0; a], vec![0; FIRST]);
-    let (said, bytes) = list_print_in(program, job, &mut work, &mut answer, &mut text);
-    if bytes < FIRST {
-        text.truncate(bytes);
-    } else {
-        text = print_list_on(program, job, said, &answer, text);
-    }
-    Listing {
-        answer: said,
-        lines: match lines_in(said) {
-            0 => Vec::new(),
-            count => cells::lines(&answer, count, &symbols::words(program, job)),
-        },
-        text,
-    }
+    LENT.with_borrow_mut(|Lent { work, answer, page }| {
+        let (said, bytes) = list_print_in(program, job, work, answer, page);
+        let text = page[..bytes].to_vec();
+        Listing {
+            answer: said,
+            lines: match lines_in(said) {
+                0 => Vec::new(),
+                count => cells::lines(answer, count, &symbols::words(program, job)),
+            },
+            text: if bytes < FIRST { text } else { print_list_on(program, job, said, answer, text) },
+        }
+    })
 }
 
 /// The program run forwards on the job's inputs.

@@ -1,5 +1,7 @@
 use borrow.Author.Tests.{eq-eqb, ne-eqb}
 use mathlib.Core.Path.{_≡_}
+use mathlib.Core.Bool.{true}
+use Rattle.checker.specs.declared.check.Verdict.the-variants.{Fine}
 use Rattle.checker.specs.CheckStored.{argsAt}
 use Rattle.checker.proofs.CheckOpenings.{not-zero, is-zero, args-more, args-none}
 use borrow.Author.Needs.{needs}
@@ -15,11 +17,11 @@ use Rattle.checker.proofs.places.ahead.Reads as ahead-reads
 use Rattle.checker.proofs.places.key.Reads as key-reads
 
 abbrev Inv-loop : tie.InvT-loop
-Inv-loop marks nums ats n fuel room cells used p fits i left₀ param₀ as-many₀ fault₀ at₀ left param as-many fault at =
-    argsAt marks nums ats n fuel room cells used p fits fault₀ i ≡ argsAt marks nums ats n left room cells used param as-many fault at
+Inv-loop marks nums ats n room cells used p i left₀ param₀ as-many₀ fault₀ at₀ left param as-many fault at =
+    argsAt marks nums ats n n room cells used p true Fine i ≡ argsAt marks nums ats n left room cells used param as-many fault at
 
 abbrev μ-loop : tie.MeasureT-loop
-μ-loop marks nums ats n fuel room cells used p fits i left₀ param₀ as-many₀ fault₀ at₀ left param as-many fault at = left
+μ-loop marks nums ats n room cells used p i left₀ param₀ as-many₀ fault₀ at₀ left param as-many fault at = left
 
 loop-holds : tie.Need-loop-holds Inv-loop μ-loop
 loop-holds c = search needs

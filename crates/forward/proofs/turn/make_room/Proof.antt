@@ -6,7 +6,7 @@ use Rattle.forward.proofs.turn.make_room.Tie as tie
 use Rattle.forward.proofs.turn.make_room.Reads as reads
 use Rattle.forward.proofs.turn.make_room.Lts as lts
 use Rattle.forward.proofs.turn.with_used.Reads as with-used-reads
-use Rattle.heap.proofs.compact.compact.Reads as compact-reads
+use Rattle.compaction.proofs.compact.compact.Reads as compact-reads
 
 compact-requires : tie.Need-compact-requires
 compact-requires c κs = search needs

@@ -1,4 +1,6 @@
 use mathlib.Core.Path.{_≡_}
+use mathlib.Core.Bool.{true}
+use Rattle.checker.specs.declared.check.Verdict.the-variants.{Fine}
 use borrow.Author.Tests.{eq-eqb, ne-eqb}
 use Rattle.job_checker.specs.JobStored.{inputsAt}
 use Rattle.job_checker.proofs.JobOpenings.{inputs-more, inputs-none}
@@ -16,11 +18,11 @@ use Rattle.checker.proofs.places.key.Reads as key-reads
 use Rattle.job_checker.proofs.check_job.input.Reads as input-reads
 
 abbrev Inv-loop : tie.InvT-loop
-Inv-loop marks ats n runs main m fuel p fits i left₀ param₀ as-many₀ fault₀ at₀ left param as-many fault at =
-    inputsAt marks ats ats n runs main m fuel p fits fault₀ i ≡ inputsAt marks ats ats n runs main m left param as-many fault at
+Inv-loop marks ats n runs main m p i left₀ param₀ as-many₀ fault₀ at₀ left param as-many fault at =
+    inputsAt marks ats ats n runs main m n p true Fine i ≡ inputsAt marks ats ats n runs main m left param as-many fault at
 
 abbrev μ-loop : tie.MeasureT-loop
-μ-loop marks ats n runs main m fuel p fits i left₀ param₀ as-many₀ fault₀ at₀ left param as-many fault at = left
+μ-loop marks ats n runs main m p i left₀ param₀ as-many₀ fault₀ at₀ left param as-many fault at = left
 
 loop-holds : tie.Need-loop-holds Inv-loop μ-loop
 loop-holds c = search needs

@@ -6,7 +6,7 @@ use Rattle.meetings.proofs.room.make_room.Statement.{statement}
 use Rattle.meetings.proofs.room.make_room.Tie as tie
 use Rattle.meetings.proofs.room.make_room.Reads as reads
 use Rattle.meetings.proofs.room.make_room.Lts as lts
-use Rattle.heap.proofs.compact.compact.Reads as compact-reads
+use Rattle.compaction.proofs.compact.compact.Reads as compact-reads
 use Rattle.meetings.proofs.class.output_entry.Reads as output-entry-reads
 
 returns : tie.Need-returns

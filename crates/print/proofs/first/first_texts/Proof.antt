@@ -1,5 +1,5 @@
 use mathlib.Core.Bool.{false}
-use Rattle.texts.specs.BothCells.{bothOver}
+use Rattle.reading.specs.BothCells.{bothOver}
 use Rattle.resolve.proofs.ListMeaning.{list-left}
 use Rattle.print.proofs.ListTurns.{said-read}
 use borrow.Author.Needs.{needs}
@@ -10,7 +10,7 @@ use Rattle.print.proofs.first.first_texts.Lts as lts
 use Rattle.print.proofs.first.print_said.Reads as print-said-reads
 use Rattle.print.proofs.list.job_terms.Reads as job-terms-reads
 use Rattle.resolve.proofs.list.list_read.Reads as list-read-reads
-use Rattle.texts.proofs.both.read_both.Reads as read-both-reads
+use Rattle.reading.proofs.both.read_both.Reads as read-both-reads
 
 slice-aggregate-read-both : tie.Need-slice-aggregate-read-both
 slice-aggregate-read-both c = search needs

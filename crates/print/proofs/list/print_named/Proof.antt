@@ -6,7 +6,7 @@ use Rattle.print.proofs.list.print_named.Reads as reads
 use Rattle.print.proofs.list.print_named.Lts as lts
 use Rattle.print.proofs.list.job_terms.Reads as job-terms-reads
 use Rattle.print.proofs.list.print_listing.Reads as print-listing-reads
-use Rattle.texts.proofs.both.read_both.Reads as read-both-reads
+use Rattle.reading.proofs.both.read_both.Reads as read-both-reads
 
 slice-aggregate-read-both : tie.Need-slice-aggregate-read-both
 slice-aggregate-read-both c = search needs

@@ -6,7 +6,7 @@ use Rattle.print.proofs.names.read_names.Tie as tie
 use Rattle.print.proofs.names.read_names.Reads as reads
 use Rattle.print.proofs.names.read_names.Lts as lts
 use Rattle.print.proofs.names.found_in.Reads as found-in-reads
-use Rattle.texts.proofs.both.read_both.Reads as read-both-reads
+use Rattle.reading.proofs.both.read_both.Reads as read-both-reads
 
 slice-aggregate-read-both : tie.Need-slice-aggregate-read-both
 slice-aggregate-read-both c = search needs

@@ -33,13 +33,13 @@ use Rattle.programs.proofs.check_terms.+consp+eqa+term.{statement}
 use Rattle.programs.proofs.check_terms.+consp+eqa+term.Tie.{close}
 
 abbrev μ-consp : Measures 5 consp-kinds.ps ℕ
-μ-consp κs a = a .1 .1 .1 .1 .1 .1 .0 + a .1 .1 .1 .1 .1 .1 .0 + 1
+μ-consp κs a = a .1 .1 .1 .1 .1 .1 .0 .room + a .1 .1 .1 .1 .1 .1 .0 .room + 1
 
 abbrev μ-eqa : Measures 5 eqa-kinds.ps ℕ
-μ-eqa κs a = a .1 .1 .1 .1 .1 .1 .0 + a .1 .1 .1 .1 .1 .1 .0 + 1
+μ-eqa κs a = a .1 .1 .1 .1 .1 .1 .0 .room + a .1 .1 .1 .1 .1 .1 .0 .room + 1
 
 abbrev μ-term : Measures 5 term-kinds.ps ℕ
-μ-term κs a = a .1 .1 .1 .1 .1 .1 .0 + a .1 .1 .1 .1 .1 .1 .0
+μ-term κs a = a .1 .1 .1 .1 .1 .1 .0 .room + a .1 .1 .1 .1 .1 .1 .0 .room
 
 abbrev consp-at : ℕ → In 5 consp-kinds.ps
 consp-at t = and 5 consp-kinds.ps (is 5 consp-kinds.ps μ-consp t) consp.Pre
@@ -680,7 +680,7 @@ eqa-returns : (t : ℕ) → eqa-lts.Need-returns (
 ) (eqa-at t) eqa.Post
 eqa-returns t c =
     let k = c .before .before .before .before .before .before .before .term .ensures .1 in (
-      rw (← (c .before .before .before .before .before .before .before .before .before .before .before .before .before .before .ahead .ensures), ← (c .before .before .before .before .before .before .before .before .before .before .before .before .before .ea .ensures), ← (c .before .before .before .before .before .before .before .before .before .before .ea2 .ensures), ← (c .before .before .before .before .before .before .before .before .ahead2 .ensures), ← (c .before .before .before .before .before .before .before .term .ensures .0), ← (term-kept _ _ _ _ _ _ _ _ _ k), ← (c .before .before .before .before .before .term2 .ensures .0), ← (c .before .before .before .before .ahead3 .ensures), ← (c .before .before .before .first .ensures), ← (c .before .before .first2 .ensures), ← (c .before .first3 .ensures), ← (c .first4 .ensures)),
+      rw (← (c .before .before .before .before .before .before .before .before .before .before .before .before .before .before .ahead .ensures), ← (c .before .before .before .before .before .before .before .before .before .before .before .before .before .ea .ensures), ← (c .before .before .before .before .before .before .before .before .before .before .ea2 .ensures), ← (c .before .before .before .before .before .before .before .before .before .ahead2 .ensures), ← (c .before .before .before .before .before .before .before .term .ensures .0), ← (term-kept _ _ _ _ _ _ _ _ _ k), ← (c .before .before .before .before .before .term2 .ensures .0), ← (c .before .before .before .before .ahead3 .ensures), ← (c .before .before .before .first .ensures), ← (c .before .before .first2 .ensures), ← (c .before .first3 .ensures), ← (c .first4 .ensures)),
       kept-on (le-refl _) k (c .before .before .before .before .before .term2 .ensures .1),
     )
 
@@ -739,6 +739,24 @@ term-key-requires : (t : ℕ) → term-lts.Need-key-requires (
 ) (term-at t) term.Post
 term-key-requires t c κs = search needs
 
+term-sub-less : (t : ℕ) → term-lts.Need-sub-less (
+  leaf-reads.Asked,
+  leaf-reads.Learnt,
+  key-reads.Asked,
+  key-reads.Learnt,
+  ahead-reads.Asked,
+  ahead-reads.Learnt,
+  call-reads.Asked,
+  call-reads.Learnt,
+  eqa-below t,
+  eqa.Post,
+  consp-below t,
+  consp.Post,
+  pair-reads.Asked,
+  pair-reads.Learnt,
+) (term-at t) term.Post
+term-sub-less t c = search needs
+
 term-ahead-requires : (t : ℕ) → term-lts.Need-ahead-requires (
   leaf-reads.Asked,
   leaf-reads.Learnt,
@@ -774,24 +792,6 @@ term-key-requires-2 : (t : ℕ) → term-lts.Need-key-requires-2 (
   pair-reads.Learnt,
 ) (term-at t) term.Post
 term-key-requires-2 t c κs = search needs
-
-term-sub-call : (t : ℕ) → term-lts.Need-sub-call (
-  leaf-reads.Asked,
-  leaf-reads.Learnt,
-  key-reads.Asked,
-  key-reads.Learnt,
-  ahead-reads.Asked,
-  ahead-reads.Learnt,
-  call-reads.Asked,
-  call-reads.Learnt,
-  eqa-below t,
-  eqa.Post,
-  consp-below t,
-  consp.Post,
-  pair-reads.Asked,
-  pair-reads.Learnt,
-) (term-at t) term.Post
-term-sub-call t c = search needs
 
 term-call-requires : (t : ℕ) → term-lts.Need-call-requires (
   leaf-reads.Asked,
@@ -866,24 +866,6 @@ term-key-requires-3 : (t : ℕ) → term-lts.Need-key-requires-3 (
 ) (term-at t) term.Post
 term-key-requires-3 t c κs = search needs
 
-term-sub-eqa : (t : ℕ) → term-lts.Need-sub-eqa (
-  leaf-reads.Asked,
-  leaf-reads.Learnt,
-  key-reads.Asked,
-  key-reads.Learnt,
-  ahead-reads.Asked,
-  ahead-reads.Learnt,
-  call-reads.Asked,
-  call-reads.Learnt,
-  eqa-below t,
-  eqa.Post,
-  consp-below t,
-  consp.Post,
-  pair-reads.Asked,
-  pair-reads.Learnt,
-) (term-at t) term.Post
-term-sub-eqa t c = search needs
-
 term-eqa-requires : (t : ℕ) → term-lts.Need-eqa-requires (
   leaf-reads.Asked,
   leaf-reads.Learnt,
@@ -921,24 +903,6 @@ term-returns-3 : (t : ℕ) → term-lts.Need-returns-3 (
 term-returns-3 t c =
     (rw (term-more (c .before .before .before .before .before .before .before .before .before .before .before .if1 .left), ← (c .before .before .before .before .before .before .before .before .before .before .key .ensures), eq-eqb _ _ (c .before .before .before .before .before .before .before .before .before .if2 .taken), ← (c .before .before .before .before .before .before .before .before .ahead .ensures), ← (c .before .before .before .before .before .before .before .key2 .ensures), ne-eqb _ _ (c .before .before .before .before .before .before .if3 .left), eq-eqb _ _ (c .before .before .before .before .before .if4 .taken), ← (c .before .before .before .before .ahead2 .ensures), ← (c .before .before .before .key3 .ensures), eq-eqb _ _ (c .before .before .if5 .taken), ← (c .eqa .ensures .0)), c .eqa .ensures .1)
 
-term-sub-consp : (t : ℕ) → term-lts.Need-sub-consp (
-  leaf-reads.Asked,
-  leaf-reads.Learnt,
-  key-reads.Asked,
-  key-reads.Learnt,
-  ahead-reads.Asked,
-  ahead-reads.Learnt,
-  call-reads.Asked,
-  call-reads.Learnt,
-  eqa-below t,
-  eqa.Post,
-  consp-below t,
-  consp.Post,
-  pair-reads.Asked,
-  pair-reads.Learnt,
-) (term-at t) term.Post
-term-sub-consp t c = search needs
-
 term-consp-requires : (t : ℕ) → term-lts.Need-consp-requires (
   leaf-reads.Asked,
   leaf-reads.Learnt,
@@ -975,24 +939,6 @@ term-returns-4 : (t : ℕ) → term-lts.Need-returns-4 (
 ) (term-at t) term.Post
 term-returns-4 t c =
     (rw (term-more (c .before .before .before .before .before .before .before .before .before .before .before .if1 .left), ← (c .before .before .before .before .before .before .before .before .before .before .key .ensures), eq-eqb _ _ (c .before .before .before .before .before .before .before .before .before .if2 .taken), ← (c .before .before .before .before .before .before .before .before .ahead .ensures), ← (c .before .before .before .before .before .before .before .key2 .ensures), ne-eqb _ _ (c .before .before .before .before .before .before .if3 .left), eq-eqb _ _ (c .before .before .before .before .before .if4 .taken), ← (c .before .before .before .before .ahead2 .ensures), ← (c .before .before .before .key3 .ensures), ne-eqb _ _ (c .before .before .if5 .left), ← (c .consp .ensures .0)), c .consp .ensures .1)
-
-term-sub-pair : (t : ℕ) → term-lts.Need-sub-pair (
-  leaf-reads.Asked,
-  leaf-reads.Learnt,
-  key-reads.Asked,
-  key-reads.Learnt,
-  ahead-reads.Asked,
-  ahead-reads.Learnt,
-  call-reads.Asked,
-  call-reads.Learnt,
-  eqa-below t,
-  eqa.Post,
-  consp-below t,
-  consp.Post,
-  pair-reads.Asked,
-  pair-reads.Learnt,
-) (term-at t) term.Post
-term-sub-pair t c = search needs
 
 term-pair-requires : (t : ℕ) → term-lts.Need-pair-requires (
   leaf-reads.Asked,
@@ -1157,20 +1103,17 @@ pub +consp+eqa+term-spec : {M : Type 1} → statement M
     (term-leaf-requires t)
     (term-returns t)
     (term-key-requires t)
+    (term-sub-less t)
     (term-ahead-requires t)
     (term-key-requires-2 t)
-    (term-sub-call t)
     (term-call-requires t)
     (term-returns-2 t)
     (term-ahead-requires-2 t)
     (term-key-requires-3 t)
-    (term-sub-eqa t)
     (term-eqa-requires t)
     (term-returns-3 t)
-    (term-sub-consp t)
     (term-consp-requires t)
     (term-returns-4 t)
-    (term-sub-pair t)
     (term-pair-requires t)
     (term-returns-5 t)
     (term-leaf-requires-2 t)

@@ -4,7 +4,7 @@ use Rattle.replay.proofs.room.make_room.Statement.{statement}
 use Rattle.replay.proofs.room.make_room.Tie as tie
 use Rattle.replay.proofs.room.make_room.Reads as reads
 use Rattle.replay.proofs.room.make_room.Lts as lts
-use Rattle.heap.proofs.compact.compact.Reads as compact-reads
+use Rattle.compaction.proofs.compact.compact.Reads as compact-reads
 use Rattle.replay.proofs.position.position_at.Reads as position-at-reads
 use Rattle.replay.proofs.room.floor_top.Reads as floor-top-reads
 use Rattle.replay.proofs.room.is_tight.Reads as is-tight-reads

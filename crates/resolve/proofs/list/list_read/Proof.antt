@@ -27,6 +27,9 @@ enum-known-both-3 c = search needs
 link-program-requires : tie.Need-link-program-requires
 link-program-requires c κs = search needs
 
+program-end-requires : tie.Need-program-end-requires
+program-end-requires c κs = search needs
+
 main-body-requires : tie.Need-main-body-requires
 main-body-requires c κs = search needs
 
@@ -56,9 +59,15 @@ same-length c = search needs
 
 returns-4 : tie.Need-returns-4
 returns-4 c =
-    let a = c .before .before .before .before .before .before .before .before .before .before .before .before .before .before .before .before .before .before .before .before .before .before .args in
-    rw (c .before .before .before .before .before .before .before .before .before .before .before .before .before .before .both3 .given .1)
-    (walked-behind (a .answer .now) (a .marks .now) (a .nums .now) (a .ends .now) (a .heads .now) (a .jmarks .now) (a .jnums .now) _ _ _ _ (c .before .before .before .before .before .before .before .before .before .before .before .link-program .ensures) (c .before .before .before .before .before .before .before .before .before .before .main-body .ensures) (c .before .before .before .before .before .before .before .before .clear .ensures) (c .before .before .before .walk-job .ensures) (c .came-to .ensures))
+    let w = c .before .before .before in
+    let k = w .before .before .before .before .before in
+    let b = k .before .before in
+    let t = b .before in
+    let l = t .before in
+    let o = l .before .before .before in
+    let a = o .before .before .before .before .before .before .before .before .args in
+    rw (o .both3 .given .1)
+    (walked-behind (a .answer .now) (a .marks .now) (a .nums .now) (a .ends .now) (a .heads .now) (a .jmarks .now) (a .jnums .now) _ _ _ _ (l .link-program .ensures) (t .program-end .ensures) (b .main-body .ensures) (k .clear .ensures) (w .walk-job .ensures) (c .came-to .ensures))
 
 pub list-read-spec : {M : Type 1} → statement M
 list-read-spec =
@@ -69,6 +78,7 @@ list-read-spec =
     enum-told
     enum-known-both-3
     link-program-requires
+    program-end-requires
     main-body-requires
     clear-requires
     walk-job-requires

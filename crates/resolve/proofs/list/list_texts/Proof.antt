@@ -5,7 +5,7 @@ use Rattle.resolve.proofs.list.list_texts.Tie as tie
 use Rattle.resolve.proofs.list.list_texts.Reads as reads
 use Rattle.resolve.proofs.list.list_texts.Lts as lts
 use Rattle.resolve.proofs.list.list_read.Reads as list-read-reads
-use Rattle.texts.proofs.both.read_both.Reads as read-both-reads
+use Rattle.reading.proofs.both.read_both.Reads as read-both-reads
 
 slice-aggregate-read-both : tie.Need-slice-aggregate-read-both
 slice-aggregate-read-both c = search needs

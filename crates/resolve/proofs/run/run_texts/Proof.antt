@@ -8,7 +8,7 @@ use Rattle.resolve.proofs.run.run_texts.Lts as lts
 use Rattle.forward.proofs.inputs.run_inputs.Reads as run-inputs-reads
 use Rattle.linking.proofs.program.link_program.Reads as link-program-reads
 use Rattle.resolve.proofs.run.answer_of.Reads as answer-of-reads
-use Rattle.texts.proofs.both.read_both.Reads as read-both-reads
+use Rattle.reading.proofs.both.read_both.Reads as read-both-reads
 use Rattle.lent.proofs.clear.clear.Reads as clear-reads
 
 slice-aggregate-read-both : tie.Need-slice-aggregate-read-both

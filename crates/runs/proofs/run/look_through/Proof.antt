@@ -6,7 +6,7 @@ use native.Mathlib.Omega.{arith}
 use lib.ListN.{getD}
 use Rattle.runs.specs.declared.run.Seen.{Seen}
 use Rattle.runs.specs.Runs.{run, countIn, anyVariable}
-use Rattle.runs.proofs.RunLaws.{metOr, count-next, count-end, one-more-least, variable-next, variable-done}
+use Rattle.runs.proofs.RunLaws.{metOr, count-next, count-end, one-least, variable-next, variable-done}
 use borrow.Author.Needs.{needs}
 use Rattle.runs.proofs.run.look_through.Statement.{statement}
 use Rattle.runs.proofs.run.look_through.Tie as tie
@@ -20,14 +20,20 @@ abbrev μ-loop : tie.MeasureT-loop
 loop-holds : tie.Need-loop-holds Inv-loop μ-loop
 loop-holds c = (omega arith, omega arith, refl)
 
-mul-one-more : tie.Need-mul-one-more Inv-loop μ-loop
-mul-one-more c = search needs
+mul-one-if : tie.Need-mul-one-if Inv-loop μ-loop
+mul-one-if c = search needs
 
-element-copy-out-one-more : tie.Need-element-copy-out-one-more Inv-loop μ-loop
-element-copy-out-one-more c = search needs
+element-copy-out-one-if : tie.Need-element-copy-out-one-if Inv-loop μ-loop
+element-copy-out-one-if c = search needs
 
-one-more-requires : tie.Need-one-more-requires Inv-loop μ-loop
-one-more-requires c κs = search needs
+one-if-requires : tie.Need-one-if-requires Inv-loop μ-loop
+one-if-requires c κs = search needs
+
+add-n : tie.Need-add-n Inv-loop μ-loop
+add-n c =
+    let l = c .before .before .before in
+    let a = l .before .args in
+    omega (arith, c .one-if .ensures, one-least (getD (a .heap .now) (l .loop .i) 0) (a .x))
 
 mul-met-variable : tie.Need-mul-met-variable Inv-loop μ-loop
 mul-met-variable c = search needs
@@ -49,8 +55,8 @@ loop-again c =
     let o = c .before .before in
     let l = o .before .before .before in
     let a = l .before .args in
-    let e = o .one-more .ensures in (
-      omega (arith, e, one-more-least (l .loop .n) (getD (a .heap .now) (l .loop .i) 0) (a .x)),
+    let e = o .one-if .ensures in (
+      omega (arith, e, one-least (getD (a .heap .now) (l .loop .i) 0) (a .x)),
       omega (arith, e, count-next (a .x) (l .loop .i) (a .to) (a .heap .now) (l .loop .n) (omega arith)),
       l .loop .inv .2 ∙ variable-next (l .loop .v) (l .loop .i) (a .to) (a .heap .now) (omega arith)
           ∙ ap (λ (k : ℕ). metOr k (anyVariable (run (l .loop .i + 1) (a .to) (a .heap .now)))) (inv (c .met-variable .ensures)),
@@ -71,9 +77,10 @@ look-through-spec =
     Inv-loop
     μ-loop
     loop-holds
-    mul-one-more
-    element-copy-out-one-more
-    one-more-requires
+    mul-one-if
+    element-copy-out-one-if
+    one-if-requires
+    add-n
     mul-met-variable
     element-copy-out-met-variable
     met-variable-requires

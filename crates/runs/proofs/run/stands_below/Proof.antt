@@ -10,7 +10,7 @@ use Rattle.runs.proofs.run.stands_below.Statement.{statement}
 use Rattle.runs.proofs.run.stands_below.Tie as tie
 use Rattle.runs.proofs.run.stands_below.Reads as reads
 use Rattle.runs.proofs.run.stands_below.Lts as lts
-use Rattle.runs.proofs.run.met.Reads as met-reads
+use Rattle.codes.proofs.code.met.Reads as met-reads
 
 abbrev Inv-loop : tie.InvT-loop
 Inv-loop heap from to x n₀ i₀ n i = standsInRun from to x heap ≡ metOr n (anyCell x (run i to heap))

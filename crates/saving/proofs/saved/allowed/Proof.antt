@@ -23,8 +23,8 @@ add-if1 c = search needs
 depth-at-requires-2 : tie.Need-depth-at-requires-2
 depth-at-requires-2 c κs = search needs
 
-mul-result : tie.Need-mul-result
-mul-result c = search needs
+add-result : tie.Need-add-result
+add-result c = search needs
 
 returns : tie.Need-returns
 unfolding allowedAt
@@ -52,6 +52,6 @@ allowed-spec =
     least-requires-2
     add-if1
     depth-at-requires-2
-    mul-result
+    add-result
     returns
     returns-2)

@@ -5,7 +5,7 @@ use Rattle.tracing.proofs.take.take_no.Reads as reads
 use Rattle.tracing.proofs.take.take_no.Lts as lts
 use Rattle.atoms.proofs.take.take_unequal.Reads as take-unequal-reads
 use Rattle.pairs.proofs.branch.take_false.Reads as take-false-reads
-use Rattle.values.proofs.call.call.Reads as call-reads
+use Rattle.calls.proofs.call.call.Reads as call-reads
 use Rattle.values.proofs.names.names_from.Reads as names-from-reads
 
 enum-told : tie.Need-enum-told

@@ -5,7 +5,7 @@ use Rattle.tracing.proofs.take.take_yes.Reads as reads
 use Rattle.tracing.proofs.take.take_yes.Lts as lts
 use Rattle.atoms.proofs.take.take_equal.Reads as take-equal-reads
 use Rattle.pairs.proofs.branch.take_true.Reads as take-true-reads
-use Rattle.values.proofs.call.call.Reads as call-reads
+use Rattle.calls.proofs.call.call.Reads as call-reads
 use Rattle.values.proofs.names.names_from.Reads as names-from-reads
 
 enum-told : tie.Need-enum-told

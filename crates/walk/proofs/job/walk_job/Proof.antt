@@ -41,13 +41,13 @@ same-length c = search needs
 
 returns : tie.Need-returns
 returns c =
-    job-on _ _ _ _ _ _ _ (c .before .before .before .before .before .before .before .before .before .before .before .before .before .before .before .before .begin .ensures) (c .before .before .before .before .before .before .before .before .before .before .before .before .before .before .b .given .1) (c .before .before .before .before .before .before .before .before .before .lay-constants .ensures) (c .before .before .before .with-used .ensures) (c .before .before .walk-begun .ensures)
+    job-on _ _ _ _ _ _ _ _ (c .before .before .before .before .before .before .before .before .before .before .before .before .before .before .before .begin .ensures) (c .before .before .before .before .before .before .before .before .before .before .before .before .before .b .given .1) (c .before .before .before .before .before .before .before .before .before .lay-constants .ensures) (c .before .before .before .with-used .ensures) (c .before .before .walk-begun .ensures)
 
 returns-2 : tie.Need-returns-2
-returns-2 c = job-none _ _ _ _ _ _ _ (c .before .before .before .before .begin .ensures) (c .before .before .enum-told .given .1) (c .before .nothing .ensures) (c .stopped .ensures)
+returns-2 c = job-none _ _ _ _ _ _ _ _ (c .before .before .before .before .begin .ensures) (c .before .before .enum-told .given .1) (c .before .nothing .ensures) (c .stopped .ensures)
 
 returns-3 : tie.Need-returns-3
-returns-3 c = job-over _ _ _ _ _ _ _ (c .before .before .before .before .begin .ensures) (c .before .before .enum-told2 .given .1) (c .before .nothing2 .ensures) (c .stopped2 .ensures)
+returns-3 c = job-over _ _ _ _ _ _ _ _ (c .before .before .before .before .begin .ensures) (c .before .before .enum-told2 .given .1) (c .before .nothing2 .ensures) (c .stopped2 .ensures)
 
 pub walk-job-spec : {M : Type 1} → statement M
 walk-job-spec =

@@ -1,0 +1,4 @@
+pub mod ArgumentTurns
+pub mod ArgumentLaws
+pub mod CallLaws
+pub mod CallLeads

@@ -1,0 +1,2 @@
+pub mod BothTurns
+pub mod BothRead
