@@ -77,7 +77,7 @@ fn listed(kind: usize, first: usize, second: usize) -> Listed {
 
 /// The listing of a program and a job, in lent storage.
 pub fn list_in(program: &[u8], job: &[u8], work: &mut [u16], answer: &mut [u16]) -> Listed {
-    let (kind, first, second) = sys::list(program, job, work, answer);
+    let (kind, [first, second]) = sys::list(program, job, work, answer);
     listed(kind, first, second)
 }
 
@@ -89,7 +89,7 @@ pub fn list_print_in(program: &[u8], job: &[u8], work: &mut [u16], answer: &mut 
 
 /// The program run forwards on the job's inputs, in lent storage.
 pub fn run_in(program: &[u8], job: &[u8], work: &mut [u16], answer: &mut [u16]) -> Ran {
-    let (kind, first, second) = sys::run(program, job, work, answer);
+    let (kind, [first, second]) = sys::run(program, job, work, answer);
     match kind {
         0 => Ran::Value { steps: first, length: second },
         1 => Ran::Over,

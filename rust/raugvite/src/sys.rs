@@ -14,10 +14,10 @@ macro_rules! lengths {
     };
 }
 
-/// An entry: the case of its answer and the two numbers of the case.
+/// An entry, with a page for the beginning of the text or without: the case of its answer, and what stands in `said`.
 macro_rules! entry {
-    ($name:ident, $function:ident) => {
-        pub fn $name(program: &[u8], job: &[u8], work: &mut [u16], answer: &mut [u16]) -> (usize, usize, usize) {
+    ($name:ident, $function:ident, $said:literal $(, $page:ident)?) => {
+        pub fn $name(program: &[u8], job: &[u8], work: &mut [u16], answer: &mut [u16] $(, $page: &mut [u8])?) -> (usize, [usize; $said]) {
             extern "C" {
                 fn $function(
                     program: *const u8,
@@ -30,13 +30,14 @@ macro_rules! entry {
                     answer_length: usize,
                     said: *mut usize,
                     said_length: usize,
+                    $($page: *mut u8, page_length: usize,)?
                 ) -> usize;
             }
-            let mut said = [0usize; 2];
+            let mut said = [0usize; $said];
             let (p, j) = (program.as_ptr(), job.as_ptr());
             let (w, a, s) = (work.as_mut_ptr(), answer.as_mut_ptr(), said.as_mut_ptr());
-            let kind = unsafe { $function(p, program.len(), j, job.len(), w, work.len(), a, answer.len(), s, said.len()) };
-            (kind, said[0], said[1])
+            let kind = unsafe { $function(p, program.len(), j, job.len(), w, work.len(), a, answer.len(), s, said.len() $(, $page.as_mut_ptr(), $page.len())?) };
+            (kind, said)
         }
     };
 }
@@ -70,33 +71,8 @@ macro_rules! text {
 
 lengths!(list_lengths, raugvite_list_work, raugvite_list_answer);
 lengths!(run_lengths, raugvite_run_work, raugvite_run_answer);
-entry!(list, raugvite_list);
-entry!(run, raugvite_run);
+entry!(list, raugvite_list, 2);
+entry!(list_print, raugvite_list_print, 3, page);
+entry!(run, raugvite_run, 2);
 text!(print_list, raugvite_print_list);
 text!(print_run, raugvite_print_run);
-
-/// The listing and the beginning of its text: the case of the answer, then its two numbers and the bytes of `out` that are text.
-pub fn list_print(program: &[u8], job: &[u8], work: &mut [u16], answer: &mut [u16], out: &mut [u8]) -> (usize, [usize; 3]) {
-    extern "C" {
-        fn raugvite_list_print(
-            program: *const u8,
-            program_length: usize,
-            job: *const u8,
-            job_length: usize,
-            work: *mut u16,
-            work_length: usize,
-            answer: *mut u16,
-            answer_length: usize,
-            said: *mut usize,
-            said_length: usize,
-            out: *mut u8,
-            out_length: usize,
-        ) -> usize;
-    }
-    let mut said = [0usize; 3];
-    let (p, j) = (program.as_ptr(), job.as_ptr());
-    let (w, a, s, o) = (work.as_mut_ptr(), answer.as_mut_ptr(), said.as_mut_ptr(), out.as_mut_ptr());
-    let (wn, an, sn, on) = (work.len(), answer.len(), said.len(), out.len());
-    let kind = unsafe { raugvite_list_print(p, program.len(), j, job.len(), w, wn, a, an, s, sn, o, on) };
-    (kind, said)
-}
