@@ -26,12 +26,12 @@ int main(int count, char **words) {
   size_t work_length = raugvite_list_work(), answer_length = raugvite_list_answer();
   uint16_t *work = calloc(work_length, sizeof *work), *answer = calloc(answer_length, sizeof *answer);
   if (!work || !answer) return 1;
-  size_t said[3];
-  size_t kind = raugvite_list_print(program, p, job, j, work, work_length, answer, answer_length, said, 3, page, PAGE);
-  size_t n = said[2];
+  size_t said[6];
+  size_t number = raugvite_list_print(program, p, job, j, work, work_length, answer, answer_length, said, 6, page, PAGE);
+  size_t n = said[RAUGVITE_BYTES]; /* the storage is long enough, so that the number is not 20 */
   fwrite(page, 1, n, stdout);
   for (size_t from = n; n == PAGE; from += n) {
-    n = raugvite_print_list(program, p, job, j, kind, said[0], said[1], answer, answer_length, from, page, PAGE);
+    n = raugvite_print_list(program, p, job, j, number, said, 6, answer, answer_length, from, page, PAGE);
     fwrite(page, 1, n, stdout);
   }
   free(work);

@@ -15,26 +15,20 @@
 extern "C" {
 #endif
 
-/* The case of a listing's answer, and the two numbers that go with it. */
+/* What `said` holds after a listing, beside the number that is returned. */
 enum raugvite_listed {
-  RAUGVITE_WHOLE = 0,   /* the lines, the transitions */
-  RAUGVITE_CUT = 1,     /* the lines, the transitions */
-  RAUGVITE_STOP21 = 2,  /* the lines, the transitions */
-  RAUGVITE_STOP22 = 3,  /* the lines, the transitions */
-  RAUGVITE_STOP23 = 4,  /* the lines, the transitions */
-  RAUGVITE_PROGRAM = 5, /* the program is refused: the number 1 to 9, the offset */
-  RAUGVITE_JOB = 6,     /* the job is refused: the number 1 to 5 or 10 to 12, the offset */
-  RAUGVITE_SHORT = 7    /* lent storage is too short: 20, 0 */
+  RAUGVITE_LETTER = 0,      /* of a refused text: 'p' the program, 'j' the job; else 0 */
+  RAUGVITE_OFFSET = 1,      /* of a refused text: the offset; else 0 */
+  RAUGVITE_CUT = 2,         /* 1 where the listing is cut, else 0 */
+  RAUGVITE_LINES = 3,       /* the lines in `answer`; 0 of a refused text */
+  RAUGVITE_TRANSITIONS = 4, /* the transitions; 0 of a refused text */
+  RAUGVITE_BYTES = 5        /* after raugvite_list_print: how many bytes of `out` are text */
 };
 
-/* The case of a run's answer. */
+/* The same after a run; the letter and the offset stand where a listing has them. */
 enum raugvite_ran {
-  RAUGVITE_VALUE = 0,       /* the steps, the cells of the value */
-  RAUGVITE_OVER = 1,        /* 21: 0, 0 */
-  RAUGVITE_NOTWITHIN = 2,   /* 0, 0 */
-  RAUGVITE_RUN_PROGRAM = 3, /* the number, the offset */
-  RAUGVITE_RUN_JOB = 4,     /* the number, the offset */
-  RAUGVITE_RUN_SHORT = 5    /* 20, 0 */
+  RAUGVITE_STEPS = 2, /* the steps; 0 where there is no value */
+  RAUGVITE_LENGTH = 3 /* the cells of the value, at least 1; 0 where there is none */
 };
 
 /* The least lengths of `work` and `answer`, in elements of 2 bytes. */
@@ -43,28 +37,32 @@ size_t raugvite_list_answer(void);
 size_t raugvite_run_work(void);
 size_t raugvite_run_answer(void);
 
-/* The listing of a program and a job: returns the case and writes its two numbers to said[0] and said[1], as far as `said` is long.
- * After cases 0 to 4 the lines stand in `answer`, zeros behind them; after 5 and 6 `answer` is as it was. `work` is zero after each case but
- * 7, which touches neither. */
+/* The listing of a program and a job: returns 0 where it is whole or cut, 21 to 23 where it was stopped, 1 to 12 where a text is refused, 20
+ * where `work` or `answer` is too short. `said` takes the five numbers above as far as it is long, and is zero behind them. After 0 and
+ * 21 to 23 the lines stand in `answer`, zeros behind them; after 1 to 12 `answer` is as it was. `work` is zero after each number but 20,
+ * which touches nothing: neither `work` nor `answer` nor `said`. */
 size_t raugvite_list(const uint8_t *program, size_t program_length, const uint8_t *job, size_t job_length, uint16_t *work, size_t work_length,
                      uint16_t *answer, size_t answer_length, size_t *said, size_t said_length);
 
 /* raugvite_list, and in `out` the printed text of what it leaves, from its first byte on, as many bytes as there is room for, zeros behind
- * them; said[2] is how many they are. Where `out` is full the rest is printed by raugvite_print_list from said[2] on. The texts are read once. */
+ * them; how many they are is the sixth number of `said`. Where `out` is full the rest is printed by raugvite_print_list from there on. The
+ * texts are read once. After 20 `out` has the text of that refusal, and `said` is as it was. */
 size_t raugvite_list_print(const uint8_t *program, size_t program_length, const uint8_t *job, size_t job_length, uint16_t *work, size_t work_length,
                            uint16_t *answer, size_t answer_length, size_t *said, size_t said_length, uint8_t *out, size_t out_length);
 
-/* As raugvite_list, for a run of the program on the job's inputs: after case 0 the value stands in `answer`, zeros behind it; after 1 and 2
- * `answer` is zero. */
+/* As raugvite_list, for a run of the program on the job's inputs: returns 0 for a value and where there is none within the job's steps, which has
+ * length 0; 21 over 4,096 nodes; 1 to 12 and 20 as above. `said` takes letter, offset, steps and length. After a value its cells stand in
+ * `answer`, zeros behind them; after 21 and where there is none `answer` is zero. */
 size_t raugvite_run(const uint8_t *program, size_t program_length, const uint8_t *job, size_t job_length, uint16_t *work, size_t work_length,
                     uint16_t *answer, size_t answer_length, size_t *said, size_t said_length);
 
 /* The printed text of an answer from the byte `from` on, as many bytes as `out` has room for, zeros behind them: returns how many they are.
- * `cells` is the `answer` that the entry left, and the case with its two numbers is what it said. */
-size_t raugvite_print_list(const uint8_t *program, size_t program_length, const uint8_t *job, size_t job_length, size_t kind, size_t first, size_t second,
-                           const uint16_t *cells, size_t cells_length, size_t from, uint8_t *out, size_t out_length);
-size_t raugvite_print_run(const uint8_t *program, size_t program_length, const uint8_t *job, size_t job_length, size_t kind, size_t first, size_t second,
-                          const uint16_t *cells, size_t cells_length, size_t from, uint8_t *out, size_t out_length);
+ * `cells` is the `answer` that the entry left, `number` what it returned and `said` what it wrote: five numbers of a listing, four of a run;
+ * what is missing counts as 0, what stands behind them is not read. */
+size_t raugvite_print_list(const uint8_t *program, size_t program_length, const uint8_t *job, size_t job_length, size_t number, const size_t *said,
+                           size_t said_length, const uint16_t *cells, size_t cells_length, size_t from, uint8_t *out, size_t out_length);
+size_t raugvite_print_run(const uint8_t *program, size_t program_length, const uint8_t *job, size_t job_length, size_t number, const size_t *said,
+                          size_t said_length, const uint16_t *cells, size_t cells_length, size_t from, uint8_t *out, size_t out_length);
 
 #ifdef __cplusplus
 }

@@ -1,20 +1,12 @@
 // What the text of a listing's answer begins with (01, "Printing, and cases"): the first line of a listing, or the refusal that is all of it.
 use crate::list::Answer;
+use crate::list::Word;
 ghost use mathlib.Core.Path.{_≡_};
 ghost use Rattle.answers.specs.Headings.{listingAs, headingOf};
 
-// The word of the first line.
-pub enum Ending {
-    Whole,
-    Cut,
-    Stop21,
-    Stop22,
-    Stop23,
-}
-
 // "First line: `whole`, `cut` or `stop21` to `stop23`, the lines, the transitions."
 pub struct FirstLine {
-    pub word: Ending,
+    pub word: Word,
     pub lines: usize,
     pub count: usize,
 }
@@ -29,7 +21,7 @@ pub enum Heading {
     },
 }
 
-fn listing(word: Ending, lines: usize, count: usize) -> Heading
+fn listing(word: Word, lines: usize, count: usize) -> Heading
     ensures { λ r. ⌜ r ≡ listingAs word lines count ⌝ }
 {
     Heading::Listing(FirstLine {
@@ -43,11 +35,7 @@ pub fn heading_of(a: Answer) -> Heading
     ensures { λ r. ⌜ r ≡ headingOf a ⌝ }
 {
     match a {
-        Answer::Whole { lines, count } => listing(Ending::Whole, lines, count),
-        Answer::Cut { lines, count } => listing(Ending::Cut, lines, count),
-        Answer::Stop21 { lines, count } => listing(Ending::Stop21, lines, count),
-        Answer::Stop22 { lines, count } => listing(Ending::Stop22, lines, count),
-        Answer::Stop23 { lines, count } => listing(Ending::Stop23, lines, count),
+        Answer::Listed { word, lines, count } => listing(word, lines, count),
         Answer::Program { number, offset } => Heading::Refusal {
             letter: b'p',
             number: number,

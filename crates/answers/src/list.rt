@@ -1,136 +1,258 @@
-// What the listing of two texts answers, and its three numbers.
+// What the listing of two texts answers, and its numbers.
+use crate::numbers::JOB;
+use crate::numbers::NEITHER;
+use crate::numbers::PROGRAM;
+use crate::numbers::SHORT;
+use crate::numbers::number_at;
+use crate::numbers::write_numbers;
 ghost use mathlib.Core.Path.{_≡_};
+ghost use mathlib.Core.List.{[], _∷_, _++_};
 ghost use Rattle.answers.specs.ListEnding.{unstoppedAs};
-ghost use Rattle.answers.specs.ListNumbers.{caseOf, firstOf, secondOf, refusalFrom, answerFrom};
+ghost use Rattle.answers.specs.Numbers.{saidAfter};
+ghost use Rattle.answers.specs.ListNumbers.{wordNumber, wordCut, numberOf, letterOf, offsetOf, cutOf, linesOf, transitionsOf, saidOf, wordFrom, answerFrom};
 
-// How many lines stand in the answer storage and how many transitions were made, by the listing's first word; the refusal of a text (1 to
-// 12) with its offset; 20.
+// The word of the first line.
+pub enum Word {
+    Whole,
+    Cut,
+    Stop21,
+    Stop22,
+    Stop23,
+}
+
+// The listing's first word, how many lines stand in the answer storage and how many transitions were made; the refusal of a text (1 to 12)
+// with its offset; 20.
 pub enum Answer {
-    Whole { lines: usize, count: usize },
-    Cut { lines: usize, count: usize },
-    Stop21 { lines: usize, count: usize },
-    Stop22 { lines: usize, count: usize },
-    Stop23 { lines: usize, count: usize },
-    Program { number: usize, offset: usize },
-    Job { number: usize, offset: usize },
+    Listed {
+        word: Word,
+        lines: usize,
+        count: usize,
+    },
+    Program {
+        number: usize,
+        offset: usize,
+    },
+    Job {
+        number: usize,
+        offset: usize,
+    },
     Short,
 }
 
 // "A walk that isn't stopped ends as cut if a configuration N deep is no end, else as whole."
-pub fn unstopped(cut: bool, lines: usize, count: usize) -> Answer
-    ensures { λ r. ⌜ r ≡ unstoppedAs cut lines count ⌝ }
+pub fn unstopped(cut: bool) -> Word
+    ensures { λ r. ⌜ r ≡ unstoppedAs cut ⌝ }
 {
     if cut {
-        return Answer::Cut { lines, count };
+        return Word::Cut;
     }
-    Answer::Whole { lines, count }
+    Word::Whole
 }
 
-// The case as a number.
-pub fn case_of(a: Answer) -> usize
-    ensures { λ r. ⌜ r ≡ caseOf a ⌝ }
+fn word_number(word: Word) -> usize
+    ensures { λ r. ⌜ r ≡ wordNumber word ⌝ }
+{
+    match word {
+        Word::Whole => 0,
+        Word::Cut => 0,
+        Word::Stop21 => 21,
+        Word::Stop22 => 22,
+        Word::Stop23 => 23,
+    }
+}
+
+fn word_cut(word: Word) -> usize
+    ensures { λ r. ⌜ r ≡ wordCut word ⌝ }
+{
+    match word {
+        Word::Whole => 0,
+        Word::Cut => 1,
+        Word::Stop21 => 0,
+        Word::Stop22 => 0,
+        Word::Stop23 => 0,
+    }
+}
+
+// 01's number: 1 to 12 of a refused text, 20, 21 to 23; whole and cut have none.
+pub fn number_of(a: Answer) -> usize
+    ensures { λ r. ⌜ r ≡ numberOf a ⌝ }
 {
     match a {
-        Answer::Whole { lines: _, count: _ } => 0,
-        Answer::Cut { lines: _, count: _ } => 1,
-        Answer::Stop21 { lines: _, count: _ } => 2,
-        Answer::Stop22 { lines: _, count: _ } => 3,
-        Answer::Stop23 { lines: _, count: _ } => 4,
+        Answer::Listed {
+            word,
+            lines: _,
+            count: _,
+        } => word_number(word),
+        Answer::Program { number, offset: _ } => number,
+        Answer::Job { number, offset: _ } => number,
+        Answer::Short => SHORT,
+    }
+}
+
+// The letter of a refusal.
+pub fn letter_of(a: Answer) -> usize
+    ensures { λ r. ⌜ r ≡ letterOf a ⌝ }
+{
+    match a {
+        Answer::Listed {
+            word: _,
+            lines: _,
+            count: _,
+        } => 0,
         Answer::Program {
             number: _,
             offset: _,
-        } => 5,
+        } => PROGRAM,
         Answer::Job {
             number: _,
             offset: _,
-        } => 6,
-        Answer::Short => 7,
+        } => JOB,
+        Answer::Short => NEITHER,
     }
 }
 
-// The lines; 01's number of a refusal.
-pub fn first_of(a: Answer) -> usize
-    ensures { λ r. ⌜ r ≡ firstOf a ⌝ }
+// The offset of a refusal.
+pub fn offset_of(a: Answer) -> usize
+    ensures { λ r. ⌜ r ≡ offsetOf a ⌝ }
 {
     match a {
-        Answer::Whole { lines, count: _ } => lines,
-        Answer::Cut { lines, count: _ } => lines,
-        Answer::Stop21 { lines, count: _ } => lines,
-        Answer::Stop22 { lines, count: _ } => lines,
-        Answer::Stop23 { lines, count: _ } => lines,
-        Answer::Program { number, offset: _ } => number,
-        Answer::Job { number, offset: _ } => number,
-        Answer::Short => 20,
-    }
-}
-
-// The transitions; the offset of a refusal.
-pub fn second_of(a: Answer) -> usize
-    ensures { λ r. ⌜ r ≡ secondOf a ⌝ }
-{
-    match a {
-        Answer::Whole { lines: _, count } => count,
-        Answer::Cut { lines: _, count } => count,
-        Answer::Stop21 { lines: _, count } => count,
-        Answer::Stop22 { lines: _, count } => count,
-        Answer::Stop23 { lines: _, count } => count,
+        Answer::Listed {
+            word: _,
+            lines: _,
+            count: _,
+        } => 0,
         Answer::Program { number: _, offset } => offset,
         Answer::Job { number: _, offset } => offset,
         Answer::Short => 0,
     }
 }
 
-// The answer of a case and its two numbers; any other case is 20.
-pub fn answer_from(kind: usize, first: usize, second: usize) -> Answer
-    ensures { λ r. ⌜ r ≡ answerFrom kind first second ⌝ }
+// 1 where the walk ended as cut.
+pub fn cut_of(a: Answer) -> usize
+    ensures { λ r. ⌜ r ≡ cutOf a ⌝ }
 {
-    if kind == 0 {
-        return Answer::Whole {
-            lines: first,
-            count: second,
-        };
+    match a {
+        Answer::Listed {
+            word,
+            lines: _,
+            count: _,
+        } => word_cut(word),
+        Answer::Program {
+            number: _,
+            offset: _,
+        } => 0,
+        Answer::Job {
+            number: _,
+            offset: _,
+        } => 0,
+        Answer::Short => 0,
     }
-    if kind == 1 {
-        return Answer::Cut {
-            lines: first,
-            count: second,
-        };
-    }
-    if kind == 2 {
-        return Answer::Stop21 {
-            lines: first,
-            count: second,
-        };
-    }
-    if kind == 3 {
-        return Answer::Stop22 {
-            lines: first,
-            count: second,
-        };
-    }
-    if kind == 4 {
-        return Answer::Stop23 {
-            lines: first,
-            count: second,
-        };
-    }
-    refusal_from(kind, first, second)
 }
 
-fn refusal_from(kind: usize, first: usize, second: usize) -> Answer
-    ensures { λ r. ⌜ r ≡ refusalFrom kind first second ⌝ }
+// The lines in the answer storage.
+pub fn lines_of(a: Answer) -> usize
+    ensures { λ r. ⌜ r ≡ linesOf a ⌝ }
 {
-    if kind == 5 {
-        return Answer::Program {
-            number: first,
-            offset: second,
-        };
+    match a {
+        Answer::Listed {
+            word: _,
+            lines,
+            count: _,
+        } => lines,
+        Answer::Program {
+            number: _,
+            offset: _,
+        } => 0,
+        Answer::Job {
+            number: _,
+            offset: _,
+        } => 0,
+        Answer::Short => 0,
     }
-    if kind == 6 {
-        return Answer::Job {
-            number: first,
-            offset: second,
-        };
+}
+
+// The transitions made.
+pub fn transitions_of(a: Answer) -> usize
+    ensures { λ r. ⌜ r ≡ transitionsOf a ⌝ }
+{
+    match a {
+        Answer::Listed {
+            word: _,
+            lines: _,
+            count,
+        } => count,
+        Answer::Program {
+            number: _,
+            offset: _,
+        } => 0,
+        Answer::Job {
+            number: _,
+            offset: _,
+        } => 0,
+        Answer::Short => 0,
     }
-    Answer::Short
+}
+
+// 01's number of the answer, and in `said` its letter, offset, cut, lines and transitions.
+pub fn tell(a: Answer, said: &mut [usize]) -> usize
+    ensures { λ r. ⌜ (r ≡ numberOf a) × (now (said .exit) ≡ saidAfter (numberOf a) (saidOf a) (now (said .entry))) ⌝ }
+{
+    let number = number_of(a);
+    let letter = letter_of(a);
+    let offset = offset_of(a);
+    let cut = cut_of(a);
+    let lines = lines_of(a);
+    let count = transitions_of(a);
+    write_numbers(number, &[letter, offset, cut, lines, count], said);
+    number
+}
+
+// The same, with the number of bytes that were printed as the sixth.
+pub fn tell_printed(a: Answer, bytes: usize, said: &mut [usize]) -> usize
+    ensures { λ r. ⌜ (r ≡ numberOf a) × (now (said .exit) ≡ saidAfter (numberOf a) (saidOf a ++ (bytes ∷ [])) (now (said .entry))) ⌝ }
+{
+    let number = number_of(a);
+    let letter = letter_of(a);
+    let offset = offset_of(a);
+    let cut = cut_of(a);
+    let lines = lines_of(a);
+    let count = transitions_of(a);
+    write_numbers(number, &[letter, offset, cut, lines, count, bytes], said);
+    number
+}
+
+fn word_from(number: usize, cut: usize) -> Word
+    ensures { λ r. ⌜ r ≡ wordFrom number cut ⌝ }
+{
+    if number == 21 {
+        return Word::Stop21;
+    }
+    if number == 22 {
+        return Word::Stop22;
+    }
+    if number == 23 {
+        return Word::Stop23;
+    }
+    unstopped(cut == 1)
+}
+
+// The answer that was told by this number and these numbers; 20 has none.
+pub fn answer_from(number: usize, said: &[usize]) -> Answer
+    ensures { λ r. ⌜ r ≡ answerFrom number (now (said .entry)) ⌝ }
+{
+    if number == SHORT {
+        return Answer::Short;
+    }
+    let letter = number_at(said, 0);
+    let offset = number_at(said, 1);
+    if letter == PROGRAM {
+        return Answer::Program { number, offset };
+    }
+    if letter == JOB {
+        return Answer::Job { number, offset };
+    }
+    let word = word_from(number, number_at(said, 2));
+    let lines = number_at(said, 3);
+    let count = number_at(said, 4);
+    Answer::Listed { word, lines, count }
 }

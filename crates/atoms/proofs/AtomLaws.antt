@@ -15,24 +15,24 @@ use Rattle.language.specs.Scope.{inScope, isAtomic}
 use Rattle.semantics.specs.Configuration.{Configuration, substOfEnv, nodesState, ExpEnv}
 use Rattle.semantics.proofs.Scopes.{WellScoped, scoped-eqa}
 use Rattle.sets.specs.Cells.{atomicCode}
-use Rattle.runs.specs.Runs.{cellsAt}
-use Rattle.heap.specs.Entries.{entryFrom, entryTo}
+use Rattle.runs.specs.twins.Runs.{cellsAt}
+use Rattle.heap.specs.twins.Entries.{entryFrom, entryTo}
 use Rattle.heap.specs.declared.configuration.Configuration.{Configuration as InCells}
 use Rattle.heap.proofs.HeapLaws.{Holds}
 use Rattle.heap.proofs.FrameLaws.{Held}
 use Rattle.heap.proofs.FrameLaws as frame
 use Rattle.heap.proofs.NodeLaws.{holds-nodes}
 use Rattle.heap.proofs.PartLaws.{held-second}
-use Rattle.linking.specs.Code.{link, linkAt}
-use Rattle.linking.specs.Linked.{placeIn, ExpLinked, symLinked, eLinked, aLinked, consLinked, TermLinked, sameLinked}
-use Rattle.linking.specs.Places.{envOf}
+use Rattle.linking.specs.twins.Code.{link, linkAt}
+use Rattle.linking.specs.twins.Linked.{placeIn, ExpLinked, symLinked, eLinked, aLinked, consLinked, TermLinked, sameLinked}
+use Rattle.linking.specs.twins.Places.{envOf}
 use Rattle.linking.proofs.PlaceLaws.{lookup-a}
 use Rattle.values.proofs.ValueLaws.{held-at, Typed, typed-length, atom-typed, Known}
 use Rattle.values.proofs.ValueLaws.{past-linked}
 use Rattle.values.proofs.StateLaws.{Stands, HoldsPair, known-in-scope}
 use Rattle.values.proofs.ContractionLaws.{few-entries}
-use Rattle.values.specs.Names.{namesFrom}
-use Rattle.atoms.specs.Atoms.{firstCell, atomAt, sidesAt}
+use Rattle.values.specs.twins.Names.{namesFrom}
+use Rattle.atoms.specs.twins.Atoms.{firstCell, atomAt, sidesAt}
 
 held-tail : {h f : List ℕ} {used i : ℕ} {t : Exp} {ts : List Exp} → Held h used f i (t ∷ ts) → Held h used f (i + 1) ts
 held-tail (frame.Held.more x k r) = r

@@ -16,7 +16,7 @@ use Rattle.sets.specs.Cells.{atomicCode}
 use Rattle.sets.proofs.RestrictionLaws.{kindCode, kindCells-means}
 use Rattle.heap.specs.declared.configuration.Configuration.{Configuration}
 use Rattle.values.proofs.StateLaws.{isNone, HoldsPair}
-use Rattle.atoms.specs.Choices.{branchesBy, branchesOf}
+use Rattle.atoms.specs.twins.Choices.{branchesBy, branchesOf}
 use Rattle.atoms.proofs.BindingLaws.{against, stands-swapped, binding-contradicts, binding-goes-on}
 
 none-applied : (u : Substitution) (P : CRPair state) (o : Option Restriction) → isNone (applyPair u P o) ≡ isNone o

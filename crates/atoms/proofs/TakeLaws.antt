@@ -19,21 +19,21 @@ use Rattle.semantics.specs.Environment.{mapValues}
 use Rattle.semantics.specs.Configuration.{State, state, Configuration, nodesState}
 use Rattle.semantics.specs.Trace.{configuration, branches, successorsOf, successors}
 use Rattle.sets.specs.Cells.{avarCode, atomicCode}
-use Rattle.sets.specs.Restricting.{RestrictAnswer, bindCells, addCells}
-use Rattle.sets.specs.Contracting.{equality}
+use Rattle.sets.specs.twins.Restricting.{RestrictAnswer, bindCells, addCells}
+use Rattle.sets.specs.twins.Contracting.{equality}
 use Rattle.sets.specs.declared.contraction.Contraction.the-variants.{Identity, Contradiction as Contradictory, Bind, NonEqual}
 use Rattle.sets.proofs.ContractionLaws.{code-tag, atomicCode-same}
 use Rattle.sets.proofs.RestrictionLaws.{Answers, bindCells-means, addCells-means}
-use Rattle.heap.specs.Contracted.{Stores}
-use Rattle.heap.specs.Moving.{Left, left, grownStores, boundCell, boundRestriction, leafFrom, leafBound, restrictedLeft, contracted}
+use Rattle.heap.specs.twins.Contracted.{Stores}
+use Rattle.heap.specs.twins.Moving.{Left, left, grownStores, boundCell, boundRestriction, leafFrom, leafBound, restrictedLeft, contracted}
 use Rattle.heap.specs.declared.configuration.Configuration.{Configuration as InCells}
 use Rattle.heap.specs.declared.configuration.Moved.the-variants.{On, Over}
 use Rattle.runs.proofs.RunLaws.{Below, below-self}
 use Rattle.heap.proofs.HeapLaws.{filling-a}
-use Rattle.linking.specs.Linked.{TermLinked}
+use Rattle.linking.specs.twins.Linked.{TermLinked}
 use Rattle.values.proofs.StateLaws.{HoldsPair, Stands, Arrives, Leads, none-leads, leads-to}
 use Rattle.values.proofs.ContractionLaws.{appliedPair, restrictedPair, usedTo, pair-same, pair-restricted, few-entries, AppliedOutcome, bound-cell}
-use Rattle.atoms.specs.Taking.{placedAt, takenBy, equalTaken, unequalTaken}
+use Rattle.atoms.specs.twins.Taking.{placedAt, takenBy, equalTaken, unequalTaken}
 use Rattle.atoms.proofs.BindingLaws.{against}
 use Rattle.atoms.proofs.AtomLaws.{sideOf, parts}
 

@@ -1,3 +1,1 @@
-pub mod Atoms
-pub mod Choices
-pub mod Taking
+pub mod twins

@@ -1,13 +1,12 @@
 // The two sides of an `eqa?`, each the code of a symbol or of a `?a`.
+use cells::cell;
 use heap::configuration::Configuration;
-use heap::entry;
 use linking::code::CELL;
 use linking::code::NAME;
 use linking::code::link_at;
-use sets::cell;
 use values::names::names_from;
 ghost use mathlib.Core.Path.{_≡_};
-ghost use Rattle.atoms.specs.Atoms.{firstCell, atomAt, sidesAt};
+ghost use Rattle.atoms.specs.twins.Atoms.{firstCell, atomAt, sidesAt};
 
 pub struct Sides {
     pub left: u16,
@@ -21,7 +20,7 @@ fn first_cell(heap: &[u16; 65535], frame: &[u16; 12360], i: usize) -> u16
     if 4120 <= i {
         return 0;
     }
-    let from = entry::wide(frame[3 * i + 1]);
+    let from = cell::wide(frame[3 * i + 1]);
     if 65535 <= from {
         return 0;
     }
@@ -45,7 +44,7 @@ pub fn atom_at(
         return first;
     }
     if mark == NAME {
-        return first_cell(heap, frame, cell::least(base, 4120) + entry::wide(first));
+        return first_cell(heap, frame, cell::least(base, 4120) + cell::wide(first));
     }
     0
 }
@@ -62,7 +61,7 @@ pub fn sides_at(
     let base = names_from(c);
     let i = cell::least(c.place, 4097) + 4;
     let l = link_at(code, i);
-    let past = entry::wide(l.past);
+    let past = cell::wide(l.past);
     let left = atom_at(code, heap, frame, base, i);
     let right = atom_at(code, heap, frame, base, past);
     Sides {

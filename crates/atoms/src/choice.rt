@@ -3,7 +3,7 @@ use heap::configuration::Branches;
 use sets::restriction::Kind;
 use sets::restriction::kind_of;
 ghost use mathlib.Core.Path.{_≡_};
-ghost use Rattle.atoms.specs.Choices.{branchesBy, branchesOf};
+ghost use Rattle.atoms.specs.twins.Choices.{branchesBy, branchesOf};
 
 // Two sides that are the same have the true branch alone; two that differ already, as different symbols or by a non-equality, the false one.
 fn branches_by(k: Kind) -> Branches

@@ -1,14 +1,14 @@
 // The transition to a branch of an `eqa?`. A branch that contradicts is never taken.
+use cells::cell;
 use heap::apply::contract;
 use heap::configuration::Configuration;
 use heap::configuration::Moved;
-use heap::entry;
 use linking::code::link_at;
 use sets::contraction::Contraction;
 use sets::contraction::equality_contraction;
 ghost use mathlib.Core.Path.{_≡_};
-ghost use Rattle.heap.specs.Moving.{left as leaves};
-ghost use Rattle.atoms.specs.Taking.{placedAt, takenBy, equalTaken, unequalTaken};
+ghost use Rattle.heap.specs.twins.Moving.{left as leaves};
+ghost use Rattle.atoms.specs.twins.Taking.{placedAt, takenBy, equalTaken, unequalTaken};
 
 // The configuration at another place.
 fn placed(c: Configuration, place: usize) -> Configuration
@@ -53,7 +53,7 @@ pub fn take_equal(
     ensures { λ r. ⌜ leaves r (now (heap .exit)) (now (frame .exit)) (now (q .exit)) ≡ equalTaken (now (code .entry)) c left right (now (heap .entry)) (now (frame .entry)) (now (q .entry)) ⌝ }
 {
     let l = link_at(code, c.place);
-    let place = entry::wide(l.first);
+    let place = cell::wide(l.first);
     let k = equality_contraction(left, right);
     take(k, place, heap, frame, q, c)
 }
@@ -71,7 +71,7 @@ pub fn take_unequal(
     ensures { λ r. ⌜ leaves r (now (heap .exit)) (now (frame .exit)) (now (q .exit)) ≡ unequalTaken (now (code .entry)) c left right (now (heap .entry)) (now (frame .entry)) (now (q .entry)) ⌝ }
 {
     let l = link_at(code, c.place);
-    let place = entry::wide(l.second);
+    let place = cell::wide(l.second);
     let k = Contraction::NonEqual {
         left: left,
         right: right,

@@ -1,20 +1,25 @@
 // A run of two texts, and its print.
-use crate::numbers::store;
 use answers::run::answer_from;
-use answers::run::case_of;
-use answers::run::first_of;
-use answers::run::second_of;
+use answers::run::tell;
 use print::ran::print_run;
 use resolve::run;
 ghost use mathlib.Core.Path.{_≡_};
 ghost use Prim.Native.Nat.{_-_, min};
-ghost use lib.ListN.{length, set};
+ghost use lib.ListN.{length};
+ghost use Rattle.language.specs.Source.{SProg, SJob, prog};
+ghost use Rattle.language.specs.JobCheck.{runner};
+ghost use Rattle.language.specs.Reading.{accepted, reading};
+ghost use Rattle.semantics.specs.Answer.{inputs};
+ghost use Rattle.listing.specs.Text.{runText};
 ghost use Rattle.resolve.specs.RunAnswer.{runLeft};
-ghost use Rattle.window.specs.Sink.{windowed};
-ghost use Rattle.print.specs.RanText.{ranText};
-ghost use Rattle.answers.specs.RunNumbers.{caseOf, firstOf, secondOf, answerFrom};
+ghost use Rattle.resolve.specs.RunDemand.{Answered, StoredRun};
+ghost use Rattle.window.specs.Windows.{windowed};
+ghost use Rattle.print.specs.twins.RanText.{ranText};
+ghost use Rattle.answers.specs.Numbers.{saidAfter};
+ghost use Rattle.answers.specs.RunNumbers.{numberOf, saidOf, answerFrom};
+ghost use Rattle.bindings.specs.Told.{RunTold};
 
-// `resolve::run`: the case of its answer, and in `said` the two numbers of the case.
+// `resolve::run`: 01's number of its answer, and in `said` the letter, the offset, the steps and the length.
 #[no_mangle]
 pub extern "C" fn raugvite_run(
     program: &[u8],
@@ -23,29 +28,26 @@ pub extern "C" fn raugvite_run(
     answer: &mut [u16],
     said: &mut [usize],
 ) -> usize
-    ensures { λ r. ⌜ (let w = runLeft (now (program .entry)) (now (job .entry)) (now (work .entry)) (now (answer .entry)) in (r ≡ caseOf (w .answer)) × (now (work .exit) ≡ w .work) × (now (answer .exit) ≡ w .cells) × (now (said .exit) ≡ set (set (now (said .entry)) 0 (firstOf (w .answer))) 1 (secondOf (w .answer)))) ⌝ }
+    ensures { λ r. ⌜ (let w = runLeft (now (program .entry)) (now (job .entry)) (now (work .entry)) (now (answer .entry)) in (r ≡ numberOf (w .answer)) × (now (work .exit) ≡ w .work) × (now (answer .exit) ≡ w .cells) × (now (said .exit) ≡ saidAfter (numberOf (w .answer)) (saidOf (w .answer)) (now (said .entry)))) × ((s : SProg) (t : SJob) → reading runner (now (program .entry)) (now (job .entry)) ≡ accepted s t → Answered (runLeft (now (program .entry)) (now (job .entry)) (now (work .entry)) (now (answer .entry)) .answer) → StoredRun (prog s) (t .steps .num) (inputs t) (runLeft (now (program .entry)) (now (job .entry)) (now (work .entry)) (now (answer .entry)) .answer) (now (answer .exit))) ⌝ }
 {
     let a = run::run(program, job, work, answer);
-    store(said, 0, first_of(a));
-    store(said, 1, second_of(a));
-    case_of(a)
+    tell(a, said)
 }
 
-// `print::ran::print_run` of the answer with this case and these two numbers.
+// `print::ran::print_run` of the answer with this number and what `said` holds beside it.
 #[no_mangle]
 pub extern "C" fn raugvite_print_run(
     program: &[u8],
     job: &[u8],
-    kind: usize,
-    first: usize,
-    second: usize,
+    number: usize,
+    said: &[usize],
     cells: &[u16],
     from: usize,
     out: &mut [u8],
 ) -> usize
-    ensures { λ r. ⌜ (let text = ranText (now (program .entry)) (now (job .entry)) (now (cells .entry)) (answerFrom kind first second) in (r ≡ min (length (now (out .entry))) (length text - from)) × (now (out .exit) ≡ windowed (length (now (out .entry))) from text)) ⌝ }
+    ensures { λ r. ⌜ (let text = ranText (now (program .entry)) (now (job .entry)) (now (cells .entry)) (answerFrom number (now (said .entry))) in (r ≡ min (length (now (out .entry))) (length text - from)) × (now (out .exit) ≡ windowed (length (now (out .entry))) from text)) × (RunTold (now (program .entry)) (now (job .entry)) number (now (said .entry)) (now (cells .entry)) → ranText (now (program .entry)) (now (job .entry)) (now (cells .entry)) (answerFrom number (now (said .entry))) ≡ runText (now (program .entry)) (now (job .entry))) ⌝ }
 {
-    let a = answer_from(kind, first, second);
+    let a = answer_from(number, said);
     print_run(program, job, a, cells, from, out)
 }
 

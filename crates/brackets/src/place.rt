@@ -1,7 +1,7 @@
 // How far a line is read, and the next bracket in it.
 ghost use mathlib.Core.Path.{_≡_};
 ghost use Prim.Native.Nat.{_-_};
-ghost use Rattle.brackets.specs.Passing.{passed};
+ghost use Rattle.brackets.specs.twins.Passing.{passed};
 
 // The next byte, the cells of the run that is being written, the symbols met.
 pub struct Place {

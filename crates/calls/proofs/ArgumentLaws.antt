@@ -13,7 +13,7 @@ use Rattle.expressions.specs.Expression.{Exp, atm, evar, pair, nodes, nodesAll}
 use Rattle.expressions.specs.Substitution.{apply, applyAll}
 use Rattle.language.specs.Program.{Param}
 use Rattle.semantics.specs.Configuration.{substOfEnv}
-use Rattle.heap.specs.Entries.{entry, entryKnown, entryFrom, entryTo, pushed, PushAnswer, pushAnswer}
+use Rattle.heap.specs.twins.Entries.{entry, entryKnown, entryFrom, entryTo, pushed, PushAnswer, pushAnswer}
 use Rattle.heap.specs.declared.entry.Pushed.the-variants.{Done as PushedDone}
 use Rattle.runs.proofs.RunLaws.{Below, below-self}
 use Rattle.heap.proofs.HeapLaws.{Holds, holds-below, nodes-positive}
@@ -22,11 +22,11 @@ use Rattle.heap.proofs.FrameLaws.{Held, held-front, entry-length, entry-before,
 use Rattle.heap.proofs.FrameLaws as frame
 use Rattle.heap.proofs.NodeLaws.{holds-nodes}
 use Rattle.constants.proofs.ConstantLaws.{Constants, constants-below}
-use Rattle.linking.specs.Code.{linkAt}
-use Rattle.linking.specs.Linked.{ExpLinked, symLinked, eLinked, aLinked, consLinked, ExpsLinked, noneLinked, moreLinked}
-use Rattle.linking.specs.Places.{envOf}
-use Rattle.values.specs.Values.{ValueLeft, valueAt}
-use Rattle.calls.specs.Arguments.{counted, takenAs, entered, ArgueLeft, argueLeft, argumentAt, argumentsAt}
+use Rattle.linking.specs.twins.Code.{linkAt}
+use Rattle.linking.specs.twins.Linked.{ExpLinked, symLinked, eLinked, aLinked, consLinked, ExpsLinked, noneLinked, moreLinked}
+use Rattle.linking.specs.twins.Places.{envOf}
+use Rattle.values.specs.twins.Values.{ValueLeft, valueAt}
+use Rattle.calls.specs.twins.Arguments.{counted, takenAs, entered, ArgueLeft, argueLeft, argumentAt, argumentsAt}
 use Rattle.values.specs.declared.value.Valued.the-variants.{At, Over as ValuedOver}
 use Rattle.calls.specs.declared.arguments.Argued.the-variants.{Done, Over}
 use Rattle.values.proofs.ValueLaws.{Typed, past-linked, Known, AllKnown, ValuedAs}

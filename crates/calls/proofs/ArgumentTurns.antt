@@ -3,8 +3,8 @@ use Prim.Native.Nat.{ℕ, zero, suc, _+_, _-_, _≤_, _<_}
 use mathlib.Core.Path.{_≡_}
 use mathlib.Core.List.{List}
 use native.Mathlib.Omega.{arith}
-use Rattle.linking.specs.Code.{linkAt}
-use Rattle.calls.specs.Arguments.{ArgueLeft, argueLeft, onwardArgue, argumentAt, argumentsAt}
+use Rattle.linking.specs.twins.Code.{linkAt}
+use Rattle.calls.specs.twins.Arguments.{ArgueLeft, argueLeft, onwardArgue, argumentAt, argumentsAt}
 use Rattle.calls.specs.declared.arguments.Argued.the-variants.{Done}
 
 none-left : (n : ℕ) → n ≤ 0 → n ≡ 0

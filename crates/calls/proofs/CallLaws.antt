@@ -12,21 +12,21 @@ use Rattle.expressions.specs.Expression.{Exp, nodesAll}
 use Rattle.expressions.specs.Substitution.{Substitution, applyAll}
 use Rattle.language.specs.Program.{Param}
 use Rattle.semantics.specs.Configuration.{substOfEnv}
-use Rattle.runs.specs.Runs.{cellsAt}
-use Rattle.heap.specs.Entries.{nodesFrom, movedDown, movedEntries}
-use Rattle.heap.specs.Moving.{Move, moved}
+use Rattle.runs.specs.twins.Runs.{cellsAt}
+use Rattle.heap.specs.twins.Entries.{nodesFrom, movedDown, movedEntries}
+use Rattle.heap.specs.twins.Moving.{Move, moved}
 use Rattle.heap.specs.declared.configuration.Configuration.{Configuration}
 use Rattle.heap.specs.declared.configuration.Moved.the-variants.{On, Over as MovedOver}
 use Rattle.runs.proofs.RunLaws.{Below, below-self, below-sets}
 use Rattle.heap.proofs.FrameLaws.{Held, held-front, moved-means}
 use Rattle.heap.proofs.NodeLaws.{held-nodes}
 use Rattle.constants.proofs.ConstantLaws.{Constants}
-use Rattle.linking.specs.Code.{link, linkAt}
-use Rattle.linking.specs.Linked.{ExpsLinked}
-use Rattle.linking.specs.Places.{envOf}
-use Rattle.calls.specs.Arguments.{ArgueLeft, argumentsAt}
-use Rattle.calls.specs.Calls.{inBody, argued, calledTo}
-use Rattle.values.specs.Sizes.{keptNodes}
+use Rattle.linking.specs.twins.Code.{link, linkAt}
+use Rattle.linking.specs.twins.Linked.{ExpsLinked}
+use Rattle.linking.specs.twins.Places.{envOf}
+use Rattle.calls.specs.twins.Arguments.{ArgueLeft, argumentsAt}
+use Rattle.calls.specs.twins.Calls.{inBody, argued, calledTo}
+use Rattle.values.specs.twins.Sizes.{keptNodes}
 use Rattle.calls.specs.declared.arguments.Argued.the-variants.{Done, Over}
 use Rattle.values.proofs.ValueLaws.{Typed, AllKnown}
 use Rattle.calls.proofs.ArgumentLaws.{Entered, arguments-outcome}

@@ -20,17 +20,17 @@ use Rattle.language.specs.WellFormed.{fits, wellFormed}
 use Rattle.semantics.specs.Environment.{bindParams}
 use Rattle.semantics.specs.Configuration.{ExpEnv, substOfEnv, state, withEnv, nodesState, Configuration}
 use Rattle.semantics.proofs.Scopes.{WellScoped, Covers, scoped-call}
-use Rattle.heap.specs.Moving.{Move, Left, left}
+use Rattle.heap.specs.twins.Moving.{Move, Left, left}
 use Rattle.heap.specs.declared.configuration.Configuration.{Configuration as InCells}
 use Rattle.heap.specs.declared.configuration.Moved.the-variants.{On, Over}
 use Rattle.heap.proofs.FrameLaws.{Held}
 use Rattle.heap.proofs.PartLaws.{nodes-joined}
-use Rattle.linking.specs.Code.{link, linkAt}
-use Rattle.linking.specs.Linked.{ExpsLinked, TermLinked, callLinked, ProgramLinked}
-use Rattle.linking.specs.Places.{envOf}
+use Rattle.linking.specs.twins.Code.{link, linkAt}
+use Rattle.linking.specs.twins.Linked.{ExpsLinked, TermLinked, callLinked, ProgramLinked}
+use Rattle.linking.specs.twins.Places.{envOf}
 use Rattle.linking.proofs.PlaceLaws.{bound-arguments}
 use Rattle.constants.proofs.ConstantLaws.{Constants}
-use Rattle.calls.specs.Calls.{calledTo}
+use Rattle.calls.specs.twins.Calls.{calledTo}
 use Rattle.values.proofs.ValueLaws.{Typed, AllKnown}
 use Rattle.calls.proofs.CallLaws.{Called, call-outcome, length-applied}
 use Rattle.calls.proofs.CallLaws as calls

@@ -1,15 +1,15 @@
 // The arguments of a call (001, figure 4: "the values of the arguments"): an entry for each, behind those there are.
+use cells::cell;
 use heap::entry::Pushed;
 use heap::entry::push_entry;
 use linking::code::NAME;
 use linking::code::link_at;
-use sets::cell;
 use values::tokens::entry_at;
 use values::tokens::place_at;
 use values::value::Valued;
 use values::value::value;
 ghost use mathlib.Core.Path.{_≡_};
-ghost use Rattle.calls.specs.Arguments.{counted, takenAs, argueLeft, argumentAt, argumentsAt};
+ghost use Rattle.calls.specs.twins.Arguments.{counted, takenAs, argueLeft, argumentAt, argumentsAt};
 
 // Done: the entries there are, what is used of the heap, and the nodes. Over: 21, "over 4,097 nodes", or no room.
 pub enum Argued {

@@ -2,15 +2,15 @@
 // then moved down.
 use crate::arguments::Argued;
 use crate::arguments::arguments;
+use cells::cell;
 use heap::configuration::Configuration;
 use heap::configuration::Moved;
 use heap::entry;
 use linking::code::link_at;
-use sets::cell;
 use values::size::kept_nodes;
 ghost use mathlib.Core.Path.{_≡_};
-ghost use Rattle.heap.specs.Moving.{moved};
-ghost use Rattle.calls.specs.Calls.{inBody, calledTo};
+ghost use Rattle.heap.specs.twins.Moving.{moved};
+ghost use Rattle.calls.specs.twins.Calls.{inBody, calledTo};
 
 // The configuration in a body, with n names in reach.
 fn in_body(c: Configuration, base: usize, n: usize, used: usize, body: usize) -> Configuration

@@ -10,7 +10,7 @@ use Rattle.checker.specs.declared.check.Verdict.{Verdict}
 use Rattle.checker.specs.declared.check.Verdict.the-variants.{Fine, Fault}
 use Rattle.checker.specs.declared.check.Names.{Names}
 use Rattle.checker.specs.declared.check.Defs.{Defs}
-use Rattle.checker.specs.CheckAt.{Put, first, ahead, arguments, noNames, names, push, pick, pickTerm, sameName, isNamed, inReach, leafAt, pairAt, expAt, argAt, argsAt, placeAt, formAt, termAt, paramsAt, paramsEnd, paramsTwice, defAt, defsAt, bodyAt, bodiesAt}
+use Rattle.checker.specs.twins.CheckAt.{Put, first, ahead, arguments, noNames, names, push, pick, pickTerm, sameName, isNamed, inReach, leafAt, pairAt, expAt, argAt, argsAt, placeAt, formAt, termAt, paramsAt, paramsEnd, paramsTwice, defAt, defsAt, bodyAt, bodiesAt}
 
 -- the number that falls is 0, or the next of the one before it
 pub less : (k : ℕ) → suc k - 1 ≡ k

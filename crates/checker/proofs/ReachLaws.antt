@@ -1,5 +1,5 @@
 -- What is found of a part depends on the names in reach and on nothing that stands in the cells behind them. So a walk may be lent cells in
--- which the part before it left its own names (specs/CheckAt.antt, Kept).
+-- which the part before it left its own names (specs/twins/CheckAt.antt, Kept).
 use Prim.Native.Nat.{ℕ, zero, suc, _+_, _≤_, _<_}
 use mathlib.Core.Path.{_≡_, refl, ap, subst, _∙_, sym as inv}
 use mathlib.Core.Bool.{Bool, true, false, cond, not}
@@ -14,7 +14,7 @@ use Rattle.language.specs.Tokens.{aname, tag, keyOf}
 use Rattle.checker.specs.declared.check.Verdict.{Verdict}
 use Rattle.checker.specs.declared.check.Walked.{Walked}
 use Rattle.checker.specs.declared.check.Names.{Names}
-use Rattle.checker.specs.CheckAt.{Kept, Put, first, judge, walked, names, push, ahead, pick, pickTerm, isNamed, leafAt, pairAt, expAt, eaAt, argAt, argsAt, callAt, eqaAt, conspAt, ifAt, formAt, termAt}
+use Rattle.checker.specs.twins.CheckAt.{Kept, Put, first, judge, walked, names, push, ahead, pick, pickTerm, isNamed, leafAt, pairAt, expAt, eaAt, argAt, argsAt, callAt, eqaAt, conspAt, ifAt, formAt, termAt}
 
 pub kept-all : (u : ℕ) (a : List ℕ) → Kept u a a
 kept-all u a = record { size = refl; same = λ j l. refl }

@@ -1,3 +1,1 @@
-pub mod StoredAt
-pub mod CheckAt
-pub mod CheckStored
+pub mod twins

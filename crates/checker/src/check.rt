@@ -1,8 +1,8 @@
-// What the check of a program by its tokens is made of (specs/CheckAt.antt).
+// What the check of a program by its tokens is made of (specs/twins/CheckAt.antt).
 ghost use mathlib.Core.Path.{_≡_};
 ghost use mathlib.Core.Bool.{_&&_, _||_, not};
 ghost use lib.ListN.{getD};
-ghost use Rattle.checker.specs.CheckAt.{first, judge, called};
+ghost use Rattle.checker.specs.twins.CheckAt.{first, judge, called};
 
 // What a check finds: nothing, or the first fault.
 pub enum Verdict {

@@ -12,19 +12,19 @@ use crate::places::key;
 use crate::places::kind;
 use crate::places::num;
 use crate::places::offset;
-use lexer::keys::ANAME;
-use lexer::keys::CLOSE_LIST;
-use lexer::keys::ENAME;
-use lexer::keys::OPEN;
-use lexer::keys::SYMBOL;
+use words::keys::ANAME;
+use words::keys::CLOSE_LIST;
+use words::keys::ENAME;
+use words::keys::OPEN;
+use words::keys::SYMBOL;
 ghost use mathlib.Core.Path.{_≡_};
 ghost use mathlib.Core.Bool.{true};
 ghost use Rattle.checker.specs.declared.check.Verdict.the-variants.{Fine};
-ghost use Rattle.checker.specs.CheckStored.{sameName, isNamed, leafAt, expAt, pairAt, atomicAt, eaAt, argAt, argsAt};
+ghost use Rattle.checker.specs.twins.CheckStored.{sameName, isNamed, leafAt, expAt, pairAt, atomicAt, eaAt, argAt, argsAt};
 
 // "`e.x` and `a.x` are two variables."
 fn same_name(marks: &[u16], nums: &[u16], n: usize, i: usize, j: usize) -> bool
-    ensures { λ r. ⌜ r ≡ sameName (now (marks .entry)) (now (nums .entry)) (now (nums .entry)) n i j ⌝ }
+    ensures { λ r. ⌜ r ≡ sameName (now (marks .entry)) (now (nums .entry)) n i j ⌝ }
 {
     both(
         kind(marks, n, i) == kind(marks, n, j),
@@ -41,7 +41,7 @@ pub fn is_named(
     used: usize,
     i: usize,
 ) -> bool
-    ensures { λ r. ⌜ r ≡ isNamed (now (marks .entry)) (now (nums .entry)) (now (nums .entry)) n (now (cells .entry)) used i ⌝ }
+    ensures { λ r. ⌜ r ≡ isNamed (now (marks .entry)) (now (nums .entry)) n (now (cells .entry)) used i ⌝ }
 {
     let mut left = used;
     while 0 < left {
@@ -141,7 +141,7 @@ pub fn pair(
 }
 
 fn atomic(marks: &[u16], n: usize, i: usize) -> bool
-    ensures { λ r. ⌜ r ≡ atomicAt (now (marks .entry)) (now (marks .entry)) (now (marks .entry)) n i ⌝ }
+    ensures { λ r. ⌜ r ≡ atomicAt (now (marks .entry)) n i ⌝ }
 {
     both(
         negated(key(marks, n, i) == OPEN),

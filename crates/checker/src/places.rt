@@ -1,11 +1,11 @@
-// What a stored token holds, by its index, and the index some tokens on (specs/StoredAt.antt). `n` is the number of tokens.
+// What a stored token holds, by its index, and the index some tokens on (specs/twins/StoredAt.antt). `n` is the number of tokens.
+use cells::cell::cell;
 use grammar::marks;
-use lexer::cells::cell;
-use lexer::keys::OTHER;
-use lexer::keys::PLAIN;
+use words::keys::OTHER;
+use words::keys::PLAIN;
 ghost use mathlib.Core.Path.{_≡_};
-ghost use Rattle.checker.specs.StoredAt.{keyAt, tagAt, numAt, atAt};
-ghost use Rattle.checker.specs.CheckAt.{ahead};
+ghost use Rattle.checker.specs.twins.StoredAt.{keyAt, tagAt, numAt, atAt};
+ghost use Rattle.checker.specs.twins.CheckAt.{ahead};
 
 // The place among the fixed words.
 pub fn key(marks: &[u16], n: usize, i: usize) -> u16
@@ -31,7 +31,7 @@ pub fn num(nums: &[u16], n: usize, i: usize) -> u16
     ensures { λ r. ⌜ r ≡ numAt (now (nums .entry)) n i ⌝ }
 {
     if i < n {
-        return cell(nums, i, 0);
+        return cell(nums, i);
     }
     0
 }

@@ -1,3 +1,1 @@
-pub mod Codes
-pub mod Knowing
-pub mod Outcomes
+pub mod twins

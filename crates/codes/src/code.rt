@@ -1,6 +1,6 @@
 // One cell: whether it is x, whether it is a variable, and what stands there when x becomes y.
 ghost use mathlib.Core.Path.{_≡_};
-ghost use Rattle.codes.specs.Codes.{metOf, variableMet, oneIf, renamedCell};
+ghost use Rattle.codes.specs.twins.Codes.{metOf, variableMet, oneIf, renamedCell};
 
 // 1 once x was met.
 pub fn met(n: u16, code: u16, x: u16) -> u16

@@ -1,6 +1,6 @@
 // What is known of a value: an odd number where no variable stands in it.
 ghost use mathlib.Core.Path.{_≡_};
-ghost use Rattle.codes.specs.Knowing.{knownAfter, closedAs};
+ghost use Rattle.codes.specs.twins.Knowing.{knownAfter, closedAs};
 
 // What is known of a value in which a variable was replaced by a tree of `size` cells: a tree of one cell keeps every length.
 pub fn known_after(known: u16, size: usize) -> u16

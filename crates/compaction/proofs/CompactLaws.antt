@@ -9,14 +9,14 @@ use lib.Seq.{sets, length-sets}
 use borrow.Author.Tests.{le-leb, lt-leb, le-ltb}
 use Rattle.expressions.specs.Expression.{Exp, nodes, nodesAll}
 use Rattle.sets.specs.Cells.{cells}
-use Rattle.sets.specs.Fill.{FillAnswer}
+use Rattle.sets.specs.twins.Fill.{FillAnswer}
 use Rattle.sets.specs.declared.fill.Filled.the-variants.{Done}
-use Rattle.runs.specs.Runs.{cellsAt, run, appended}
-use Rattle.heap.specs.Entries.{entry, entryKnown, entryFrom, entryTo, PushAnswer, pushAnswer, pushed}
+use Rattle.runs.specs.twins.Runs.{cellsAt, run, appended}
+use Rattle.heap.specs.twins.Entries.{entry, entryKnown, entryFrom, entryTo, PushAnswer, pushAnswer, pushed}
 use Rattle.heap.specs.declared.entry.Pushed.{Pushed}
 use Rattle.heap.specs.declared.entry.Pushed.the-variants.{Done as PushedDone}
-use Rattle.heap.specs.Contracted.{Stores, stores, onwardFrom}
-use Rattle.compaction.specs.Compacting.{relocatedEntry, relocatedFrom, cellsMoved, Compaction, movedStores, compacted}
+use Rattle.heap.specs.twins.Contracted.{Stores, stores, onwardFrom}
+use Rattle.compaction.specs.twins.Compacting.{relocatedEntry, relocatedFrom, cellsMoved, Compaction, movedStores, compacted}
 use Rattle.runs.proofs.RunLaws.{Below, below-self, below-sets, length-cellsAt}
 use Rattle.heap.proofs.HeapLaws.{Holds, holds-below, sets-cells, Grown, append-means}
 use Rattle.heap.proofs.KnownLaws.{KnownOf}

@@ -1,1 +1,1 @@
-pub mod Compacting
+pub mod twins

@@ -1,14 +1,14 @@
 // Compaction: the values in use put together, one behind the other from a place on. No spare storage: they are written behind what is used, and then
 // all moved down.
+use cells::cell;
 use heap::entry;
 use runs::run;
-use sets::cell;
 use sets::fill::Filled;
 ghost use mathlib.Core.Path.{_≡_};
 ghost use Prim.Native.Nat.{_-_, _<_, _≤_};
-ghost use Rattle.sets.specs.Fill.{fillAnswer};
-ghost use Rattle.heap.specs.Contracted.{stores};
-ghost use Rattle.compaction.specs.Compacting.{relocatedFrame, relocatedEntry, relocatedEntries, cellsMoved, compaction, compacted};
+ghost use Rattle.sets.specs.twins.Fill.{fillAnswer};
+ghost use Rattle.heap.specs.twins.Contracted.{stores};
+ghost use Rattle.compaction.specs.twins.Compacting.{relocatedFrame, relocatedEntry, relocatedEntries, cellsMoved, compaction, compacted};
 
 // The entry i with the range from `used` to the answer, `down` cells lower: where it will stand.
 fn relocated(frame: &mut [u16; 12360], i: usize, down: usize, used: usize, w: Filled) -> Filled
@@ -37,8 +37,8 @@ fn relocate_entry(
     requires { ⌜ i < 4120 ⌝ }
     ensures { λ r. ⌜ stores r (now (heap .exit)) (now (frame .exit)) ≡ relocatedEntry i floor down used (now (heap .entry)) (now (frame .entry)) ⌝ }
 {
-    let from = entry::wide(frame[3 * i + 1]);
-    let to = entry::wide(frame[3 * i + 2]);
+    let from = cell::wide(frame[3 * i + 1]);
+    let to = cell::wide(frame[3 * i + 2]);
     if to <= floor {
         return Filled::Done(used);
     }

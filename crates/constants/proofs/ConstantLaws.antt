@@ -9,19 +9,19 @@ use lib.Dec.{eqb, ltb, leb}
 use lib.ListN.{length, getD, set, replicate, length-set, length-append}
 use lib.Seq.{sets, length-sets, getD-set-same, getD-set-other}
 use borrow.Author.Tests.{lt-ltb, le-ltb, ltb-true, ltb-false, leb-true, leb-false, eqb-true, eqb-false}
-use Rattle.runs.specs.Runs.{cellsAt, run}
+use Rattle.runs.specs.twins.Runs.{cellsAt, run}
 use Rattle.runs.proofs.RunLaws.{Below, below-self, below-sets, run-below, length-cellsAt}
 use Rattle.heap.proofs.HeapLaws.{sets-cells}
 use Rattle.expressions.specs.Expression.{Exp}
 use Rattle.expressions.specs.Substitution.{Substitution, apply}
 use Rattle.language.specs.Program.{Param, pe, pa}
 use Rattle.sets.specs.Cells.{cells}
-use Rattle.linking.specs.Code.{link, linkAt}
-use Rattle.linking.specs.Linked.{placeIn, ExpLinked, symLinked, eLinked, aLinked, consLinked}
+use Rattle.linking.specs.twins.Code.{link, linkAt}
+use Rattle.linking.specs.twins.Linked.{placeIn, ExpLinked, symLinked, eLinked, aLinked, consLinked}
 use Rattle.linking.proofs.AgreeLaws.{exp-goes-on}
 use Rattle.linking.specs.declared.code.Link.{Link}
-use Rattle.constants.specs.Table.{constant, constantAt, entered}
-use Rattle.constants.specs.Laying.{namedIn, cellsOfToken, cellsOf, startsAt, fitsAt, isConstant, LaidLeft, laid, laidOne, laidFrom, limitOf, constantsLaid}
+use Rattle.constants.specs.twins.Table.{constant, constantAt, entered}
+use Rattle.constants.specs.twins.Laying.{namedIn, cellsOfToken, cellsOf, startsAt, fitsAt, isConstant, LaidLeft, laid, laidOne, laidFrom, limitOf, constantsLaid}
 use Rattle.constants.specs.declared.table.Constant.{Constant}
 use Rattle.constants.specs.declared.lay.Laid.{Laid}
 

@@ -5,8 +5,8 @@ use mathlib.Core.Bool.{true, false}
 use mathlib.Core.List.{List, [], _∷_}
 use native.Mathlib.Omega.{arith}
 use borrow.Author.Tests.{eq-eqb, ne-eqb}
-use Rattle.linking.specs.Code.{linkAt}
-use Rattle.constants.specs.Laying.{namedIn, cellsOf, laidOne, laidFrom}
+use Rattle.linking.specs.twins.Code.{linkAt}
+use Rattle.constants.specs.twins.Laying.{namedIn, cellsOf, laidOne, laidFrom}
 use Rattle.constants.specs.declared.lay.Laid.{Laid}
 
 module _ (code : List ℕ) (j to : ℕ) where

@@ -1,17 +1,17 @@
 // Every expression without names laid out in the heap, once, behind what is used; its tokens come in preorder, and so do its cells.
 use crate::table::enter;
+use cells::cell;
 use linking::code::CELL;
 use linking::code::NAME;
 use linking::code::NOTHING;
 use linking::code::TOKENS;
 use linking::code::link_at;
-use sets::cell;
-use sets::cell::PAIR;
+use sets::tree::PAIR;
 ghost use mathlib.Core.Path.{_≡_};
 ghost use Prim.Native.Nat.{_+_, _-_, _≤_};
 ghost use lib.ListN.{length};
 ghost use lib.Seq.{sets};
-ghost use Rattle.constants.specs.Laying.{namedIn, cellsOf, startsAt, fitsAt, isConstant, laid, laidOne, constantsLeft, constantsLaid};
+ghost use Rattle.constants.specs.twins.Laying.{namedIn, cellsOf, startsAt, fitsAt, isConstant, laid, laidOne, constantsLeft, constantsLaid};
 
 // What is used of the heap, and the token behind the latest constant: those before it are parts of one.
 pub struct Laid {

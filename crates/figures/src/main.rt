@@ -5,9 +5,9 @@
 //     R: the job's text, for a run, or L: the job's text, for a listing
 //
 // and prints the title and what 01 has printed. The lent storages are full of garbage before each.
+use cells::part::part;
 use libc::STDIN_FILENO;
 use libc::STDOUT_FILENO;
-use pages::part::part;
 use print::list::print_list;
 use print::ran::print_run;
 use resolve::list;

@@ -21,39 +21,31 @@ use Rattle.semantics.specs.Runner.{nodesValue, nodesInputs, nodesNext}
 use Rattle.semantics.proofs.Scopes.{WellScoped, scoped-call}
 use Rattle.sets.specs.Cells.{cells}
 use Rattle.sets.proofs.CellLaws.{cells-nodes}
-use Rattle.heap.specs.Entries.{nodesFrom}
+use Rattle.heap.specs.twins.Entries.{nodesFrom}
 use Rattle.heap.specs.declared.configuration.Configuration.{Configuration as InCells}
 use Rattle.runs.proofs.RunLaws.{below-self}
 use Rattle.heap.proofs.FrameLaws.{Held}
 use Rattle.heap.proofs.FrameLaws as frame
 use Rattle.heap.proofs.PartLaws.{held-first}
 use Rattle.heap.proofs.NodeLaws.{holds-nodes, held-nodes}
-use Rattle.linking.specs.Linked.{ExpLinked, TermLinked}
-use Rattle.linking.specs.Places.{envOf}
+use Rattle.linking.specs.twins.Linked.{ExpLinked, TermLinked}
+use Rattle.linking.specs.twins.Places.{envOf}
 use Rattle.constants.proofs.ConstantLaws.{NoConstants}
 use Rattle.values.proofs.ValueLaws.{Typed, Known}
 use Rattle.values.proofs.ValueLaws.{past-linked}
 use Rattle.heap.proofs.HeapLaws.{nodes-positive}
 use Rattle.values.proofs.StateLaws.{trees, nodes-length, Stands}
 use Rattle.values.proofs.PairLaws.{state-nodes, entries-few}
-use Rattle.initial.proofs.EmbedLaws.{run-nodes}
+use Rattle.initial.proofs.EmbedLaws.{embed-nodes, inputs-nodes, run-nodes}
 use Rattle.tracing.specs.declared.ask.Asked.{Asked}
 use Rattle.tracing.proofs.ShowLaws.{Accepted, end-at, call-at, same-at, test-at}
-use Rattle.forward.specs.Next.{endsAt, overIn}
-use Rattle.forward.specs.Output.{OutLeft, tokensPut}
-use Rattle.forward.specs.Turning.{outputRoom, FinishLeft, finishedBy, finished}
+use Rattle.forward.specs.twins.Next.{endsAt, overIn}
+use Rattle.forward.specs.twins.Output.{OutLeft, tokensPut}
+use Rattle.forward.specs.twins.Turning.{outputRoom, FinishLeft, finishedBy, finished}
 use Rattle.running.specs.declared.ran.Ran.the-variants.{Value as RanValue, Over}
 use Rattle.forward.proofs.PutLaws.{Puts}
 use Rattle.forward.proofs.OutputLaws.{Sources, output-means}
 use Rattle.forward.proofs.WayLaws.{at}
-
-pub embed-nodes : (v : Value) → nodes (embed v) ≡ nodesValue v
-embed-nodes (atom z) = refl
-embed-nodes (cons u v) = omega (arith, embed-nodes u, embed-nodes v)
-
-inputs-nodes : (vs : List Value) → nodesAll (map embed vs) ≡ nodesInputs vs
-inputs-nodes [] = refl
-inputs-nodes (v ∷ vs) = omega (arith, embed-nodes v, inputs-nodes vs)
 
 -- whether a term is an e
 abbrev pub isResult : Term → Bool

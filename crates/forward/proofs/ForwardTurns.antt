@@ -5,13 +5,13 @@ use mathlib.Core.List.{List}
 use native.Mathlib.Omega.{arith}
 use Rattle.sets.specs.declared.fill.Filled.the-variants.{Done}
 use Rattle.heap.specs.declared.configuration.Configuration.{Configuration}
-use Rattle.linking.specs.Code.{linkAt}
+use Rattle.linking.specs.twins.Code.{linkAt}
 use Rattle.tracing.specs.declared.ask.Asked.{Asked}
-use Rattle.forward.specs.Naming.{argumentFrom}
-use Rattle.forward.specs.Output.{outLeft, onwardFrom, tokenPut, tokensPut}
-use Rattle.forward.specs.Turning.{turned}
-use Rattle.running.specs.Answers.{ranAnswer}
-use Rattle.forward.specs.Running.{afterTurn, ranFrom}
+use Rattle.forward.specs.twins.Naming.{argumentFrom}
+use Rattle.forward.specs.twins.Output.{outLeft, onwardFrom, tokenPut, tokensPut}
+use Rattle.forward.specs.twins.Turning.{turned}
+use Rattle.running.specs.twins.Answers.{ranAnswer}
+use Rattle.forward.specs.twins.Running.{afterTurn, ranFrom}
 use Rattle.running.specs.declared.ran.Ran.the-variants.{NotWithin}
 
 none-left : (c j : ℕ) → c ≤ j → c - j ≡ 0

@@ -16,7 +16,8 @@ use Rattle.language.specs.Scope.{Scope}
 use Rattle.semantics.specs.Environment.{lookup, updateE, updateA, bindParams}
 use Rattle.semantics.specs.Figure4.{ValueEnv}
 use Rattle.semantics.specs.Evaluate.{groundOf, end, go, step}
-use Rattle.semantics.specs.Embedding.{embed, embedEnv}
+use Rattle.semantics.specs.Embedding.{embed}
+use Rattle.semantics.proofs.EmbeddedStates.{embedEnv}
 use Rattle.semantics.specs.Configuration.{ExpEnv, substOfEnv, state, nodesValues, Configuration}
 use Rattle.semantics.specs.Runner.{nodesNext}
 use Rattle.semantics.specs.Trace.{Successors, called, branches, configuration, tracePair, successorsOf, successors}
@@ -24,9 +25,9 @@ use Rattle.semantics.proofs.Forward.{apply-embed}
 use Rattle.semantics.proofs.Scopes.{Covers, WellScoped, scoped-call, scoped-consp}
 use Rattle.heap.specs.declared.configuration.Configuration.{Configuration as InCells}
 use Rattle.runs.proofs.RunLaws.{Below, below-self}
-use Rattle.linking.specs.Code.{link, linkAt}
-use Rattle.linking.specs.Linked.{placeIn, withName, ExpLinked, ExpsLinked, TermLinked, callLinked, sameLinked}
-use Rattle.linking.specs.Places.{envOf, withValue}
+use Rattle.linking.specs.twins.Code.{link, linkAt}
+use Rattle.linking.specs.twins.Linked.{placeIn, withName, ExpLinked, ExpsLinked, TermLinked, callLinked, sameLinked}
+use Rattle.linking.specs.twins.Places.{envOf, withValue}
 use Rattle.linking.specs.declared.code.Link.{Link}
 use Rattle.linking.proofs.PlaceLaws.{bound-e, bound-a, bound-arguments}
 use Rattle.constants.proofs.ConstantLaws.{NoConstants, none-held}
@@ -34,19 +35,19 @@ use Rattle.values.proofs.ValueLaws.{Typed, typed-length, Known}
 use Rattle.values.proofs.StateLaws.{known-in-scope, all-known, Stands}
 use Rattle.values.proofs.PairLaws.{entries-few, fits-typed}
 use Rattle.values.proofs.BodyLaws.{found-linked}
-use Rattle.atoms.specs.Atoms.{sidesAt}
+use Rattle.atoms.specs.twins.Atoms.{sidesAt}
 use Rattle.atoms.proofs.AtomLaws.{sideOf}
 use Rattle.atoms.proofs.TakeLaws.{same-successors}
-use Rattle.looking.specs.Looking.{testAt, LookLeft, lookAt}
+use Rattle.looking.specs.twins.Looking.{testAt, LookLeft, lookAt}
 use Rattle.looking.specs.declared.look.Tested.{Tested}
 use Rattle.looking.specs.declared.look.Tested.the-variants.{Atom, Pair, Large}
 use Rattle.pairs.proofs.NameLaws.{typed-with-e, typed-with-a}
 use Rattle.pairs.proofs.LookLaws.{TestAt, test-at, Looked, atomAt, variableAt, pairAt, largeAt}
 use Rattle.pairs.proofs.BranchLaws.{stands-look}
-use Rattle.tracing.specs.Asking.{AskLeft, askedAt}
+use Rattle.tracing.specs.twins.Asking.{AskLeft, askedAt}
 use Rattle.tracing.specs.declared.ask.Asked.the-variants.{Same, Test}
 use Rattle.tracing.proofs.ShowLaws.{Accepted}
-use Rattle.forward.specs.Next.{nextPlace}
+use Rattle.forward.specs.twins.Next.{nextPlace}
 use Rattle.forward.proofs.OutputLaws.{Sources}
 use Rattle.forward.proofs.WayLaws.{wayTo, at, size, in-scope, Way}
 use Rattle.forward.proofs.SourceLaws.{same-sources, call-sources, atom-sources, pair-sources, large-sources}

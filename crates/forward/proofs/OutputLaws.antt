@@ -16,17 +16,17 @@ use Rattle.sets.proofs.CellLaws.{cells-nodes}
 use Rattle.heap.specs.declared.configuration.Configuration.{Configuration as InCells}
 use Rattle.heap.proofs.HeapLaws.{Holds, nodes-positive}
 use Rattle.heap.proofs.NodeLaws.{holds-nodes}
-use Rattle.linking.specs.Code.{link, linkAt}
-use Rattle.linking.specs.Linked.{placeIn, ExpLinked, symLinked, eLinked, aLinked, consLinked}
-use Rattle.linking.specs.Places.{envOf}
+use Rattle.linking.specs.twins.Code.{link, linkAt}
+use Rattle.linking.specs.twins.Linked.{placeIn, ExpLinked, symLinked, eLinked, aLinked, consLinked}
+use Rattle.linking.specs.twins.Places.{envOf}
 use Rattle.linking.proofs.AgreeLaws.{exp-goes-on}
 use Rattle.linking.proofs.PlaceLaws.{lookup-e, lookup-a}
-use Rattle.values.specs.Values.{ValueLeft}
+use Rattle.values.specs.twins.Values.{ValueLeft}
 use Rattle.values.specs.declared.value.Valued.the-variants.{At, Over as ValuedOver}
 use Rattle.values.proofs.ValueLaws.{Typed, typed-length, atom-typed, Known}
 use Rattle.tracing.specs.declared.ask.Asked.{Asked}
-use Rattle.forward.specs.Naming.{namedAt}
-use Rattle.forward.specs.Output.{OutLeft, outLeft, onward, onwardFrom, tokenPut, tokensPut}
+use Rattle.forward.specs.twins.Naming.{namedAt}
+use Rattle.forward.specs.twins.Output.{OutLeft, outLeft, onward, onwardFrom, tokenPut, tokensPut}
 use Rattle.forward.proofs.PutLaws.{Kept, Room, Puts, nothing-put, cell-put, range-put, put-then}
 
 -- the value v in a range of the heap, which is as h below B

@@ -10,14 +10,15 @@ use lib.ListN.{length, take, drop, getD, set, length-append, length-drop}
 use lib.Seq.{drop-cons, set-at, take-at, drop-at, drop-drop}
 use borrow.Author.Tests.{le-leb, lt-leb, lt-ltb, le-ltb}
 use Rattle.expressions.specs.Expression.{Exp, nodes}
-use Rattle.sets.specs.Cells.{cells, CopyAnswer, copied}
+use Rattle.sets.specs.twins.Copying.{CopyAnswer, copied}
+use Rattle.sets.specs.Cells.{cells}
 use Rattle.sets.specs.declared.fill.Filled.the-variants.{Done, Over}
 use Rattle.sets.proofs.CellLaws.{cells-nodes, copied-done}
-use Rattle.runs.specs.Runs.{cellsAt, run}
+use Rattle.runs.specs.twins.Runs.{cellsAt, run}
 use Rattle.runs.proofs.RunLaws.{Below}
 use Rattle.heap.proofs.HeapLaws.{Holds}
 use Rattle.heap.proofs.NodeLaws.{holds-nodes}
-use Rattle.forward.specs.Output.{cellPut, rangePut, OutLeft, outLeft, beside, onwardFrom}
+use Rattle.forward.specs.twins.Output.{cellPut, rangePut, OutLeft, outLeft, beside, onwardFrom}
 
 -- a run is a part of the list
 run-take : (n i : ℕ) (h : List ℕ) → i + n ≤ length h → take n (drop i h) ≡ cellsAt n i h

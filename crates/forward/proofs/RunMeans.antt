@@ -13,7 +13,8 @@ use Rattle.language.specs.Program.{Term, call, conditional, result, Prog, find}
 use Rattle.language.specs.WellFormed.{fits}
 use Rattle.semantics.specs.Figure4.{ValueEnv}
 use Rattle.semantics.specs.Evaluate.{groundOf, Next, end, go, step, startTerm, startEnv}
-use Rattle.semantics.specs.Embedding.{embed, embedEnv}
+use Rattle.semantics.specs.Embedding.{embed}
+use Rattle.semantics.proofs.EmbeddedStates.{embedEnv}
 use Rattle.semantics.specs.Configuration.{ExpEnv, substOfEnv, Configuration}
 use Rattle.semantics.specs.Runner.{Ran, value, ranOver, notWithin, nodesValue, nodesInputs, atResult, nodesNext, runFrom, runner}
 use Rattle.semantics.proofs.Environments.{FitsInputs}
@@ -23,8 +24,8 @@ use Rattle.semantics.proofs.Scopes.{Covers, WellScoped, scoped-map}
 use Rattle.sets.specs.Cells.{cells}
 use Rattle.heap.specs.declared.configuration.Configuration.{Configuration as InCells}
 use Rattle.runs.proofs.RunLaws.{below-self}
-use Rattle.linking.specs.Linked.{TermLinked}
-use Rattle.linking.specs.Places.{envOf}
+use Rattle.linking.specs.twins.Linked.{TermLinked}
+use Rattle.linking.specs.twins.Places.{envOf}
 use Rattle.constants.proofs.ConstantLaws.{NoConstants}
 use Rattle.values.proofs.ValueLaws.{Known}
 use Rattle.values.proofs.StateLaws.{known-in-scope, Stands}
@@ -32,10 +33,10 @@ use Rattle.values.proofs.PairLaws.{entries-few}
 use Rattle.initial.proofs.EmbedLaws.{run-nodes, start-step}
 use Rattle.tracing.specs.declared.ask.Asked.the-variants.{End}
 use Rattle.tracing.proofs.ShowLaws.{Accepted}
-use Rattle.forward.specs.Next.{endsAt}
-use Rattle.forward.specs.Turning.{finished, TurnLeft, turned}
-use Rattle.running.specs.Answers.{RanAnswer, ranAnswer}
-use Rattle.forward.specs.Running.{afterTurn, ranFrom, finishedRan, ranOn}
+use Rattle.forward.specs.twins.Next.{endsAt}
+use Rattle.forward.specs.twins.Turning.{finished, TurnLeft, turned}
+use Rattle.running.specs.twins.Answers.{RanAnswer, ranAnswer}
+use Rattle.forward.specs.twins.Running.{afterTurn, ranFrom, finishedRan, ranOn}
 use Rattle.running.specs.declared.ran.Ran.the-variants.{Value as RanValue, Over as RanOver, NotWithin}
 use Rattle.forward.proofs.SourceLaws.{end-sources}
 use Rattle.forward.proofs.WayLaws.{at}

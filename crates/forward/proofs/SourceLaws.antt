@@ -19,26 +19,26 @@ use Rattle.heap.specs.declared.configuration.Configuration.{Configuration as In
 use Rattle.runs.proofs.RunLaws.{Below}
 use Rattle.heap.proofs.HeapLaws.{Holds, holds-below}
 use Rattle.heap.proofs.FrameLaws.{Held, held-kept}
-use Rattle.linking.specs.Code.{link, linkAt}
-use Rattle.linking.specs.Linked.{placeIn, withName, ExpLinked, consLinked, ExpsLinked, noneLinked, moreLinked}
-use Rattle.linking.specs.Places.{envOf, withValue}
+use Rattle.linking.specs.twins.Code.{link, linkAt}
+use Rattle.linking.specs.twins.Linked.{placeIn, withName, ExpLinked, consLinked, ExpsLinked, noneLinked, moreLinked}
+use Rattle.linking.specs.twins.Places.{envOf, withValue}
 use Rattle.linking.specs.declared.code.Link.{Link}
 use Rattle.constants.proofs.ConstantLaws.{NoConstants, none-held}
-use Rattle.values.specs.Names.{namesFrom}
-use Rattle.values.specs.Values.{ValueLeft, valueLeft, valueAt}
+use Rattle.values.specs.twins.Names.{namesFrom}
+use Rattle.values.specs.twins.Values.{ValueLeft, valueLeft, valueAt}
 use Rattle.values.specs.declared.value.Valued.the-variants.{At}
 use Rattle.values.proofs.ValueLaws.{typed-length, Known, AllKnown, valued-name}
 use Rattle.values.proofs.ValueLaws.{past-linked}
 use Rattle.values.proofs.RoomLaws.{value-outcome}
 use Rattle.values.proofs.RoomLaws as values
 use Rattle.values.proofs.StateLaws.{HoldsPair}
-use Rattle.looking.specs.Looking.{testAt}
+use Rattle.looking.specs.twins.Looking.{testAt}
 use Rattle.looking.specs.declared.look.Tested.{Tested}
 use Rattle.looking.specs.declared.look.Tested.the-variants.{Atom, Pair, Large}
 use Rattle.pairs.proofs.NameLaws.{place-most, typed-with-e, names-held, entries-are}
 use Rattle.pairs.proofs.LookLaws.{TestAt, test-from, names-from-is}
 use Rattle.tracing.specs.declared.ask.Asked.the-variants.{End, Call, Same, Test}
-use Rattle.forward.specs.Naming.{argumentFrom, bindersOf, ownAt, testedBy, testedNamed, namedAt}
+use Rattle.forward.specs.twins.Naming.{argumentFrom, bindersOf, ownAt, testedBy, testedNamed, namedAt}
 use Rattle.forward.specs.declared.named.Binders.{Binders}
 use Rattle.forward.proofs.PutLaws.{Kept}
 use Rattle.forward.proofs.OutputLaws.{Source, Sources}

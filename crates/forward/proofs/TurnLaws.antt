@@ -13,29 +13,30 @@ use Rattle.expressions.specs.Substitution.{ground, apply}
 use Rattle.language.specs.Program.{Term, call, conditional, result, Param, Prog}
 use Rattle.semantics.specs.Figure4.{ValueEnv}
 use Rattle.semantics.specs.Evaluate.{groundOf, Next, end, go, step}
-use Rattle.semantics.specs.Embedding.{embed, embedEnv}
+use Rattle.semantics.specs.Embedding.{embed}
+use Rattle.semantics.proofs.EmbeddedStates.{embedEnv}
 use Rattle.semantics.specs.Configuration.{ExpEnv, substOfEnv, nodesState, Configuration}
 use Rattle.semantics.specs.Runner.{nodesValue, nodesInputs, atResult, nodesNext}
 use Rattle.semantics.proofs.Forward.{apply-embed}
 use Rattle.semantics.proofs.Scopes.{Covers, WellScoped, scoped-map}
 use Rattle.semantics.proofs.Evaluation.{Goes, step-goes, scoped-step}
 use Rattle.sets.specs.Cells.{cells}
-use Rattle.compaction.specs.Compacting.{Compaction, compacted}
-use Rattle.heap.specs.Moving.{Left}
+use Rattle.compaction.specs.twins.Compacting.{Compaction, compacted}
+use Rattle.heap.specs.twins.Moving.{Left}
 use Rattle.heap.specs.declared.configuration.Configuration.{Configuration as InCells}
 use Rattle.heap.specs.declared.configuration.Moved.the-variants.{Over as MovedOver}
 use Rattle.compaction.proofs.CompactLaws.{Compacted, compact-means}
-use Rattle.linking.specs.Linked.{ExpLinked, TermLinked, resultLinked}
-use Rattle.linking.specs.Places.{envOf}
+use Rattle.linking.specs.twins.Linked.{ExpLinked, TermLinked, resultLinked}
+use Rattle.linking.specs.twins.Places.{envOf}
 use Rattle.constants.proofs.ConstantLaws.{NoConstants}
 use Rattle.values.proofs.ValueLaws.{Known}
 use Rattle.values.proofs.StateLaws.{trees, known-in-scope, Stands, Arrives}
 use Rattle.values.proofs.PairLaws.{state-nodes, entries-few}
 use Rattle.initial.proofs.EmbedLaws.{run-nodes}
-use Rattle.tracing.specs.Asking.{AskLeft, askedAt, branchesAsked, takenAs}
+use Rattle.tracing.specs.twins.Asking.{AskLeft, askedAt, branchesAsked, takenAs}
 use Rattle.tracing.proofs.ShowLaws.{Accepted}
-use Rattle.forward.specs.Next.{nextPlace, endsAt}
-use Rattle.forward.specs.Turning.{usedAs, RoomLeft, roomedTo, roomed, finished, sizedLeft, advanced, TurnLeft, endedTurn, wentTurn, turnedBy, turnedAsked, turned}
+use Rattle.forward.specs.twins.Next.{nextPlace, endsAt}
+use Rattle.forward.specs.twins.Turning.{usedAs, RoomLeft, roomedTo, roomed, finished, sizedLeft, advanced, TurnLeft, endedTurn, wentTurn, turnedBy, turnedAsked, turned}
 use Rattle.running.specs.declared.ran.Ran.the-variants.{Value as RanValue, Over}
 use Rattle.forward.specs.declared.turn.Turn.the-variants.{On, Ended}
 use Rattle.forward.proofs.WayLaws.{at, Way, WayTo, way}

@@ -10,20 +10,21 @@ use Rattle.expressions.specs.Expression.{Value, sym, Exp}
 use Rattle.language.specs.Program.{Term, result, Prog}
 use Rattle.semantics.specs.Figure4.{ValueEnv}
 use Rattle.semantics.specs.Evaluate.{Next, end, go, step}
-use Rattle.semantics.specs.Embedding.{embed, embedEnv, atState, OneSuccessor}
-use Rattle.semantics.specs.Embedding as embedding
+use Rattle.semantics.specs.Embedding.{embed}
+use Rattle.semantics.proofs.EmbeddedStates.{embedEnv, atState, OneSuccessor}
+use Rattle.semantics.proofs.EmbeddedStates as embedding
 use Rattle.semantics.specs.Configuration.{nodesState, Configuration}
 use Rattle.semantics.specs.Runner.{nodesNext}
 use Rattle.semantics.specs.Trace.{Successors, terminal, called, branches, successors}
 use Rattle.semantics.proofs.Forward.{forward}
 use Rattle.semantics.proofs.Scopes.{WellScoped, scoped-map}
-use Rattle.heap.specs.Moving.{Left}
+use Rattle.heap.specs.twins.Moving.{Left}
 use Rattle.heap.specs.declared.configuration.Configuration.{Configuration as InCells}
 use Rattle.runs.proofs.RunLaws.{Below}
 use Rattle.constants.proofs.ConstantLaws.{NoConstants, none-held}
 use Rattle.values.proofs.StateLaws.{Stands, Leads}
 use Rattle.initial.proofs.EmbedLaws.{runPair, run-nodes}
-use Rattle.tracing.specs.Asking.{AskLeft, askedAt, isCall, branchesAsked, takenAs}
+use Rattle.tracing.specs.twins.Asking.{AskLeft, askedAt, isCall, branchesAsked, takenAs}
 use Rattle.tracing.specs.declared.ask.Asked.{Asked}
 use Rattle.tracing.specs.declared.ask.Asked.the-variants.{End, Call, Same, Test}
 use Rattle.tracing.proofs.ShowLaws.{Accepted, Shows, shows}

@@ -1,5 +1,1 @@
-pub mod Next
-pub mod Naming
-pub mod Output
-pub mod Turning
-pub mod Running
+pub mod twins

@@ -7,8 +7,8 @@ use running::ran::Ran;
 use running::ran::settle;
 use syntax::job_ends::JobEnds;
 ghost use mathlib.Core.Path.{_≡_};
-ghost use Rattle.running.specs.Answers.{ranAnswer};
-ghost use Rattle.forward.specs.Running.{runBegun, runInputs};
+ghost use Rattle.running.specs.twins.Answers.{ranAnswer};
+ghost use Rattle.forward.specs.twins.Running.{runBegun, runInputs};
 
 // From what the job begins as, on.
 fn run_begun(

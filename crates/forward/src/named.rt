@@ -1,18 +1,18 @@
 // The value of a name at an end. "Its nodes are those of the inputs and the environment values, at an end of the inputs and the output": the environment
 // of an end may be of any size, so that it is never made. A name's value is worked out where the output has it, in the environment before.
+use cells::cell;
 use heap::configuration::Configuration;
 use linking::code::link_at;
 use looking::look::Tested;
-use sets::cell;
 use tracing::ask::Asked;
 use values::names::names_from;
 use values::value::Valued;
 use values::value::value;
 ghost use mathlib.Core.Path.{_≡_};
 ghost use Prim.Native.Nat.{_≤_};
-ghost use Rattle.values.specs.Values.{valueLeft};
-ghost use Rattle.looking.specs.Looking.{testAt};
-ghost use Rattle.forward.specs.Naming.{argumentFrom, bindersOf, ownAt, argumentNamed, partIndex, testedNamed, namedAt};
+ghost use Rattle.values.specs.twins.Values.{valueLeft};
+ghost use Rattle.looking.specs.twins.Looking.{testAt};
+ghost use Rattle.forward.specs.twins.Naming.{argumentFrom, bindersOf, ownAt, argumentNamed, partIndex, testedNamed, namedAt};
 
 // The index of an argument, so many behind the one at i.
 fn argument_from(code: &[u16; 24582], q: u16, i: usize) -> usize

@@ -1,11 +1,12 @@
 // What comes next in a run.
+use cells::cell;
 use heap::configuration::Configuration;
 use heap::entry;
 use linking::code::CALL;
 use linking::code::link_at;
 ghost use mathlib.Core.Path.{_≡_};
 ghost use mathlib.Core.Bool.{Bool};
-ghost use Rattle.forward.specs.Next.{nextPlace, endsAt, overIn};
+ghost use Rattle.forward.specs.twins.Next.{nextPlace, endsAt, overIn};
 
 // Where the term stands to which the one at `place` leads: the body of a call, the branch of a condition.
 pub(crate) fn next_place(code: &[u16; 24582], place: usize, taken: bool) -> usize
@@ -15,9 +16,9 @@ pub(crate) fn next_place(code: &[u16; 24582], place: usize, taken: bool) -> usiz
     let first = l.first;
     let second = l.second;
     if taken {
-        return entry::wide(first);
+        return cell::wide(first);
     }
-    entry::wide(second)
+    cell::wide(second)
 }
 
 // "A state whose term is an e is an end".

@@ -1,16 +1,17 @@
 // The output of an end, into the answer storage: "its value is the output".
 use crate::named::name_value;
+use cells::cell;
 use heap::configuration::Configuration;
 use linking::code::CELL;
 use linking::code::NAME;
 use linking::code::link_at;
-use sets::cell;
 use sets::fill::Filled;
+use sets::tree;
 use tracing::ask::Asked;
 use values::value::Valued;
 ghost use mathlib.Core.Path.{_≡_};
-ghost use Rattle.sets.specs.Fill.{fillAnswer};
-ghost use Rattle.forward.specs.Output.{cellPut, rangePut, outLeft, valuePut, namePut, tokenPut, outputPut};
+ghost use Rattle.sets.specs.twins.Fill.{fillAnswer};
+ghost use Rattle.forward.specs.twins.Output.{cellPut, rangePut, outLeft, valuePut, namePut, tokenPut, outputPut};
 
 // A cell at `at`, where there are fewer than `limit`.
 fn put_cell(x: u16, answer: &mut [u16], at: usize, limit: usize) -> Filled
@@ -41,7 +42,7 @@ fn put_range(
     if limit - at < n {
         return Filled::Over;
     }
-    cell::copy(heap, from, n, answer, at);
+    tree::copy(heap, from, n, answer, at);
     Filled::Done(at + n)
 }
 

@@ -10,8 +10,8 @@ use running::ran::is_within;
 use tracing::ask::Asked;
 ghost use mathlib.Core.Path.{_≡_};
 ghost use Prim.Native.Nat.{_-_};
-ghost use Rattle.running.specs.Answers.{ranAnswer};
-ghost use Rattle.forward.specs.Running.{ranFrom, ranOn};
+ghost use Rattle.running.specs.twins.Answers.{ranAnswer};
+ghost use Rattle.forward.specs.twins.Running.{ranFrom, ranOn};
 
 // From a state that is no end, one step from the start, on.
 fn run_from(

@@ -3,20 +3,20 @@ use crate::next::ends_at;
 use crate::next::is_over;
 use crate::next::next_place;
 use crate::output::push_output;
+use cells::cell;
 use compaction::compact::compact;
 use heap::configuration::Configuration;
 use heap::configuration::Moved;
 use heap::entry;
 use running::ran::Ran;
 use running::ran::ran_by;
-use sets::cell;
 use tracing::ask::Asked;
 use tracing::ask::ask;
 use tracing::ask::branches;
 use tracing::take::take;
 ghost use mathlib.Core.Path.{_≡_};
 ghost use mathlib.Core.Bool.{Bool};
-ghost use Rattle.forward.specs.Turning.{usedAs, roomLeft, roomed, outputRoom, finishLeft, finished, turnBy, turnLeft, advanced, turned};
+ghost use Rattle.forward.specs.twins.Turning.{usedAs, roomLeft, roomed, outputRoom, finishLeft, finished, turnBy, turnLeft, advanced, turned};
 
 // What a transition leads to: the next state, or what the run comes to.
 pub(crate) enum Turn {

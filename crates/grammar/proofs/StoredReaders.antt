@@ -9,11 +9,11 @@ use borrow.Author.Tests.{ltb-true, eqb-false, leb-false}
 use Rattle.language.specs.Words.{Fit, fits, broken, long, many}
 use Rattle.language.specs.Tokens.{tag}
 use Rattle.language.specs.Reader.{roomed}
-use Rattle.lexer.specs.declared.got.Got.{Got}
-use Rattle.lexer.specs.declared.got.Got.the-variants.{Past, Refused}
-use Rattle.grammar.specs.Positions.{onPast, seqP, pickP, treeP}
-use Rattle.lexer.specs.Marks.{kindAt, kindTag, fitAt}
-use Rattle.grammar.specs.Stored.{markAt, seen, wrongAt, theInAt, leafAt, treeAt}
+use Rattle.words.specs.declared.got.Got.{Got}
+use Rattle.words.specs.declared.got.Got.the-variants.{Past, Refused}
+use Rattle.grammar.specs.twins.Positions.{onPast, seqP, pickP, treeP}
+use Rattle.words.specs.twins.Marks.{kindAt, kindTag, fitAt}
+use Rattle.grammar.specs.twins.Stored.{markAt, seen, wrongAt, theInAt, leafAt, treeAt}
 
 pub roomed-more : {k : ℕ} → (k ≡ 0 → ⊥) → (f : Fit) → roomed k f ≡ f
 roomed-more {k = zero} h f = absurd (h refl)

@@ -5,10 +5,10 @@ use mathlib.Core.Bool.{Bool, true, false}
 use mathlib.Core.List.{List}
 use native.Mathlib.Omega.{arith}
 use lib.Dec.{eqb}
-use Rattle.lexer.specs.declared.got.Got.{Got}
-use Rattle.lexer.specs.declared.got.Got.the-variants.{Past, Refused}
-use Rattle.grammar.specs.Positions.{onPast, seqP, pickP, treeP, termP}
-use Rattle.grammar.specs.Stored.{markAt, wrongAt, theInAt, oneOfAt, leafAt, treeAt, treesAt, argsAt, testAt, conditionAt, callAt, conditionalAt, pairAt, termAt}
+use Rattle.words.specs.declared.got.Got.{Got}
+use Rattle.words.specs.declared.got.Got.the-variants.{Past, Refused}
+use Rattle.grammar.specs.twins.Positions.{onPast, seqP, pickP, treeP, termP}
+use Rattle.grammar.specs.twins.Stored.{markAt, wrongAt, theInAt, oneOfAt, leafAt, treeAt, treesAt, argsAt, testAt, conditionAt, callAt, conditionalAt, pairAt, termAt}
 use Rattle.grammar.proofs.StoredReaders.{on-seq}
 
 -- three and four readers, one behind the other

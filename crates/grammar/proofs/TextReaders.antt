@@ -6,11 +6,11 @@ use mathlib.Core.List.{List}
 use native.Mathlib.Omega.{arith}
 use lib.Dec.{eqb}
 use Rattle.language.specs.Tokens.{tag}
-use Rattle.lexer.specs.declared.got.Got.{Got}
-use Rattle.lexer.specs.declared.got.Got.the-variants.{Past, Refused}
-use Rattle.grammar.specs.Positions.{onPast, seqP, pickP, treeP, parametersP, definitionP, definitionsP, programP, jobP}
-use Rattle.lexer.specs.Marks.{kindAt, kindTag}
-use Rattle.grammar.specs.Stored.{markAt, wrongAt, theInAt, oneOfAt, treeAt, treesAt, termAt, parameterAt, parametersAt, definitionAt, definitionsAt, programAt, sidesAt, pairsAt, partAt, inputsAt, outputAt, nonEqualitiesAt, numeralAt, endAt, jobAt}
+use Rattle.words.specs.declared.got.Got.{Got}
+use Rattle.words.specs.declared.got.Got.the-variants.{Past, Refused}
+use Rattle.grammar.specs.twins.Positions.{onPast, seqP, pickP, treeP, parametersP, definitionP, definitionsP, programP, jobP}
+use Rattle.words.specs.twins.Marks.{kindAt, kindTag}
+use Rattle.grammar.specs.twins.Stored.{markAt, wrongAt, theInAt, oneOfAt, treeAt, treesAt, termAt, parameterAt, parametersAt, definitionAt, definitionsAt, programAt, sidesAt, pairsAt, partAt, inputsAt, outputAt, nonEqualitiesAt, numeralAt, endAt, jobAt}
 use Rattle.grammar.proofs.StoredReaders.{on-seq, tag-kind}
 use Rattle.grammar.proofs.TermReaders.{on-seq3, on-seq4}
 

@@ -1,4 +1,4 @@
-// The readers of definitions and programs (specs/Positions.antt).
+// The readers of definitions and programs (specs/twins/Positions.antt).
 use crate::marks::key;
 use crate::marks::kind;
 use crate::readers::one_of;
@@ -7,19 +7,19 @@ use crate::readers::the_in;
 use crate::readers::word;
 use crate::readers::wrong;
 use crate::terms::term;
-use lexer::got::Got;
-use lexer::keys::ANAME;
-use lexer::keys::CLOSE;
-use lexer::keys::CLOSE_LIST;
-use lexer::keys::DEFINE;
-use lexer::keys::ENAME;
-use lexer::keys::END;
-use lexer::keys::OPEN;
-use lexer::keys::OPEN_LIST;
-use lexer::keys::PLAIN;
+use words::got::Got;
+use words::keys::ANAME;
+use words::keys::CLOSE;
+use words::keys::CLOSE_LIST;
+use words::keys::DEFINE;
+use words::keys::ENAME;
+use words::keys::END;
+use words::keys::OPEN;
+use words::keys::OPEN_LIST;
+use words::keys::PLAIN;
 ghost use mathlib.Core.Path.{_≡_};
-ghost use Rattle.grammar.specs.Positions.{onPast};
-ghost use Rattle.grammar.specs.Stored.{parameterAt, parametersAt, definitionAt, definitionsAt, programAt};
+ghost use Rattle.grammar.specs.twins.Positions.{onPast};
+ghost use Rattle.grammar.specs.twins.Stored.{parameterAt, parametersAt, definitionAt, definitionsAt, programAt};
 
 // "x": a parameter, if there is room for one more.
 fn parameter(marks: &[u16], ats: &[u16], room: usize, i: usize) -> Got

@@ -1,4 +1,4 @@
-// The readers of jobs (specs/Positions.antt).
+// The readers of jobs (specs/twins/Positions.antt).
 use crate::marks::key;
 use crate::readers::the;
 use crate::readers::tree;
@@ -6,26 +6,26 @@ use crate::readers::word;
 use crate::readers::wrong;
 use crate::terms::left_from;
 use crate::terms::trees;
-use lexer::got::Got;
-use lexer::keys::AVARIABLE;
-use lexer::keys::CLOSE;
-use lexer::keys::CLOSE_LIST;
-use lexer::keys::END;
-use lexer::keys::EVARIABLE;
-use lexer::keys::IN;
-use lexer::keys::JOB;
-use lexer::keys::NEQ;
-use lexer::keys::OPEN;
-use lexer::keys::OPEN_LIST;
-use lexer::keys::OUT;
-use lexer::keys::PLAIN;
-use lexer::keys::STEPS;
-use lexer::keys::TABLE;
-use lexer::keys::WALK;
+use words::got::Got;
+use words::keys::AVARIABLE;
+use words::keys::CLOSE;
+use words::keys::CLOSE_LIST;
+use words::keys::END;
+use words::keys::EVARIABLE;
+use words::keys::IN;
+use words::keys::JOB;
+use words::keys::NEQ;
+use words::keys::OPEN;
+use words::keys::OPEN_LIST;
+use words::keys::OUT;
+use words::keys::PLAIN;
+use words::keys::STEPS;
+use words::keys::TABLE;
+use words::keys::WALK;
 ghost use mathlib.Core.Path.{_≡_};
 ghost use Prim.Native.Nat.{_-_};
-ghost use Rattle.grammar.specs.Positions.{onPast};
-ghost use Rattle.grammar.specs.Stored.{sidesAt, pairsAt, inputsAt, outputAt, nonEqualitiesAt, numeralAt, endAt, jobAt};
+ghost use Rattle.grammar.specs.twins.Positions.{onPast};
+ghost use Rattle.grammar.specs.twins.Stored.{sidesAt, pairsAt, inputsAt, outputAt, nonEqualitiesAt, numeralAt, endAt, jobAt};
 
 // "`[d d]`"
 fn sides(marks: &[u16], ats: &[u16], i: usize) -> Got

@@ -1,11 +1,11 @@
-// What a reader sees of a stored token: its key, its kind, how it fits, whether it is one too many, its offset (specs/Stored.antt).
-use lexer::cells::cell;
-use lexer::got::Got;
+// What a reader sees of a stored token: its key, its kind, how it fits, whether it is one too many, its offset (specs/twins/Stored.antt).
+use cells::cell::cell;
+use words::got::Got;
 ghost use mathlib.Core.Path.{_≡_};
 ghost use Prim.Native.Nat.{_%_};
-ghost use Rattle.lexer.specs.Marks.{kindTag, fitAt, overMark, fitTag};
-ghost use Rattle.grammar.specs.Stored.{markAt, offsetAt};
-ghost use Rattle.grammar.specs.Positions.{judgedAt};
+ghost use Rattle.words.specs.twins.Marks.{kindTag, fitAt, overMark, fitTag};
+ghost use Rattle.grammar.specs.twins.Stored.{markAt, offsetAt};
+ghost use Rattle.grammar.specs.twins.Positions.{judgedAt};
 
 // The mark past the end of the storage: no fixed word, a plain word that is broken, and one too many. No reader passes it.
 const NOTHING: u16 = 1458;
@@ -13,7 +13,10 @@ const NOTHING: u16 = 1458;
 fn mark(marks: &[u16], i: usize) -> u16
     ensures { λ r. ⌜ r ≡ markAt (now (marks .entry)) i ⌝ }
 {
-    cell(marks, i, NOTHING)
+    if marks.len() <= i {
+        return NOTHING;
+    }
+    marks[i]
 }
 
 // The token's place among the fixed words.
@@ -41,7 +44,7 @@ pub fn fit(marks: &[u16], i: usize) -> u16
 pub fn offset(ats: &[u16], i: usize) -> usize
     ensures { λ r. ⌜ r ≡ offsetAt (now (ats .entry)) i ⌝ }
 {
-    cell(ats, i, 0) as usize
+    cell(ats, i) as usize
 }
 
 // "3, 4, 5 at the earliest token": a token that fits so in its place is passed, or refused.

@@ -1,18 +1,18 @@
-// The smallest readers: one token, or one e or d (specs/Positions.antt). A reader takes what the one before it got: it reads on from
+// The smallest readers: one token, or one e or d (specs/twins/Positions.antt). A reader takes what the one before it got: it reads on from
 // there, or hands the refusal on.
 use crate::marks::fit;
 use crate::marks::judged;
 use crate::marks::key;
 use crate::marks::kind;
 use crate::marks::offset;
-use lexer::got::Got;
-use lexer::keys::CLOSE;
-use lexer::keys::CONS;
-use lexer::keys::OPEN;
-use lexer::keys::SYMBOL;
+use words::got::Got;
+use words::keys::CLOSE;
+use words::keys::CONS;
+use words::keys::OPEN;
+use words::keys::SYMBOL;
 ghost use mathlib.Core.Path.{_≡_};
-ghost use Rattle.grammar.specs.Positions.{onPast};
-ghost use Rattle.grammar.specs.Stored.{wrongAt, theInAt, oneOfAt, leafAt, treeAt};
+ghost use Rattle.grammar.specs.twins.Positions.{onPast};
+ghost use Rattle.grammar.specs.twins.Stored.{wrongAt, theInAt, oneOfAt, leafAt, treeAt};
 
 // 3 at the next token.
 pub(crate) fn wrong(ats: &[u16], from: Got) -> Got

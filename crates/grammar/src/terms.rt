@@ -1,4 +1,4 @@
-// The readers of terms (specs/Positions.antt): t and its `if` read each other, and each bracket takes one from the room for them.
+// The readers of terms (specs/twins/Positions.antt): t and its `if` read each other, and each bracket takes one from the room for them.
 use crate::marks::key;
 use crate::readers::leaf;
 use crate::readers::the;
@@ -6,23 +6,23 @@ use crate::readers::the_in;
 use crate::readers::tree;
 use crate::readers::word;
 use crate::readers::wrong;
-use lexer::got::Got;
-use lexer::keys::ANAME;
-use lexer::keys::CALL;
-use lexer::keys::CLOSE;
-use lexer::keys::CLOSE_LIST;
-use lexer::keys::CONS;
-use lexer::keys::ENAME;
-use lexer::keys::EQA;
-use lexer::keys::IF;
-use lexer::keys::IS_CONS;
-use lexer::keys::OPEN;
-use lexer::keys::OPEN_LIST;
-use lexer::keys::PLAIN;
+use words::got::Got;
+use words::keys::ANAME;
+use words::keys::CALL;
+use words::keys::CLOSE;
+use words::keys::CLOSE_LIST;
+use words::keys::CONS;
+use words::keys::ENAME;
+use words::keys::EQA;
+use words::keys::IF;
+use words::keys::IS_CONS;
+use words::keys::OPEN;
+use words::keys::OPEN_LIST;
+use words::keys::PLAIN;
 ghost use mathlib.Core.Path.{_≡_};
 ghost use Prim.Native.Nat.{_-_};
-ghost use Rattle.grammar.specs.Positions.{onPast};
-ghost use Rattle.grammar.specs.Stored.{treeAt, treesAt, argsAt, testAt, conditionAt, callAt, conditionalAt, pairAt, termAt};
+ghost use Rattle.grammar.specs.twins.Positions.{onPast};
+ghost use Rattle.grammar.specs.twins.Stored.{treeAt, treesAt, argsAt, testAt, conditionAt, callAt, conditionalAt, pairAt, termAt};
 
 // How many tokens may stand from `i` on: 4,097 are stored at most.
 pub(crate) fn left_from(i: usize) -> usize

@@ -6,13 +6,13 @@ use mathlib.Core.List.{List}
 use native.Mathlib.Omega.{arith}
 use lib.ListN.{getD}
 use borrow.Author.Tests.{eq-eqb, ne-eqb}
-use Rattle.sets.specs.Fill.{FillAnswer, fillAnswer}
+use Rattle.sets.specs.twins.Fill.{FillAnswer, fillAnswer}
 use Rattle.sets.specs.declared.fill.Filled.{Filled}
 use Rattle.sets.specs.declared.fill.Filled.the-variants.{Done, Over}
-use Rattle.runs.specs.Runs.{ReplaceAnswer, replaceAnswer, replaced}
+use Rattle.runs.specs.twins.Runs.{ReplaceAnswer, replaceAnswer, replaced}
 use Rattle.codes.specs.declared.outcome.Replaced.{Replaced}
-use Rattle.heap.specs.Entries.{entryKnown, entryFrom, entryTo}
-use Rattle.heap.specs.Contracted.{Stores, stores, enteredFrame, leafEntered, onwardFrom, contractedEntry, contractedFrom}
+use Rattle.heap.specs.twins.Entries.{entryKnown, entryFrom, entryTo}
+use Rattle.heap.specs.twins.Contracted.{Stores, stores, enteredFrame, leafEntered, onwardFrom, contractedEntry, contractedFrom}
 
 module _ (i x vfrom vto used : ℕ) (h f : List ℕ) where
   pub entry-closed : entryKnown f i % 2 ≡ 1 → stores (Done used) h f ≡ contractedEntry i x vfrom vto used h f

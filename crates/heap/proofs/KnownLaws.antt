@@ -9,12 +9,13 @@ use lib.ListN.{length}
 use borrow.Author.Tests.{eqb-true, eqb-false}
 use Rattle.expressions.specs.Expression.{Exp, atm, evar, pair, nodes}
 use Rattle.expressions.specs.Substitution.{Substitution, apply}
-use Rattle.sets.specs.Cells.{cells, anyCell}
-use Rattle.sets.specs.Fill.{spread}
+use Rattle.sets.specs.twins.Copying.{anyCell}
+use Rattle.sets.specs.Cells.{cells}
+use Rattle.sets.specs.twins.Fill.{spread}
 use Rattle.sets.proofs.CellLaws.{cells-nodes, cells-injective}
-use Rattle.runs.specs.Runs.{anyVariable, spreadSize}
+use Rattle.runs.specs.twins.Runs.{anyVariable, spreadSize}
 use Rattle.runs.proofs.RunLaws.{size-is, size-one}
-use Rattle.codes.specs.Knowing.{knownAfter, closedAs}
+use Rattle.codes.specs.twins.Knowing.{knownAfter, closedAs}
 use Rattle.heap.proofs.HeapLaws.{Filling, spread-none}
 
 -- the nodes of a pair's head; no other tree has a head

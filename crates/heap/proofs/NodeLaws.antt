@@ -8,7 +8,7 @@ use lib.ListN.{length, List·getD-eq-default}
 use Rattle.expressions.specs.Expression.{Exp, nodes, nodesAll}
 use Rattle.sets.specs.Cells.{cells}
 use Rattle.sets.proofs.CellLaws.{cells-nodes}
-use Rattle.heap.specs.Entries.{entryFrom, entryTo, nodesFrom}
+use Rattle.heap.specs.twins.Entries.{entryFrom, entryTo, nodesFrom}
 use Rattle.runs.proofs.RunLaws.{length-cellsAt}
 use Rattle.heap.proofs.HeapLaws.{Holds, nodes-positive}
 use Rattle.heap.proofs.FrameLaws.{Held}

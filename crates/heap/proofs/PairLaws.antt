@@ -7,9 +7,10 @@ use native.Mathlib.Numerals.{add-one}
 use lib.ListN.{length, take, drop, getD, length-append}
 use lib.Seq.{drop-cons, take-at, drop-at}
 use Rattle.expressions.specs.Expression.{Exp, pair, nodes}
-use Rattle.sets.specs.Cells.{cells, treeEnd}
+use Rattle.sets.specs.twins.Copying.{treeEnd}
+use Rattle.sets.specs.Cells.{cells}
 use Rattle.sets.proofs.CellLaws.{Stands, stands-end, cells-nodes}
-use Rattle.runs.specs.Runs.{cellsAt, run}
+use Rattle.runs.specs.twins.Runs.{cellsAt, run}
 use Rattle.runs.proofs.RunLaws.{run-cons, length-cellsAt, run-drop, cells-split}
 use Rattle.heap.proofs.HeapLaws.{Holds}
 

@@ -1,3 +1,1 @@
-pub mod Entries
-pub mod Contracted
-pub mod Moving
+pub mod twins

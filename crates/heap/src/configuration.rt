@@ -2,7 +2,7 @@
 use sets::fill::Filled;
 use sets::restriction::Restricted;
 ghost use mathlib.Core.Path.{_≡_};
-ghost use Rattle.heap.specs.Moving.{grownBy, restrictedBy};
+ghost use Rattle.heap.specs.twins.Moving.{grownBy, restrictedBy};
 
 // How many entries there are, of them inputs and wanted outputs; what is used of the heap; the non-equalities; the term's place; the counter.
 pub struct Configuration {

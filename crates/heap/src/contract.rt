@@ -1,15 +1,15 @@
 // A contraction of entries: an entry in whose range the variable stands gets a new range, its filled copy. A range in which no variable stands is passed by.
 use crate::entry;
+use cells::cell;
 use codes::known::closed;
 use codes::known::known_after;
 use codes::outcome::Replaced;
 use runs::run;
-use sets::cell;
 use sets::fill::Filled;
 ghost use mathlib.Core.Path.{_≡_};
 ghost use Prim.Native.Nat.{_<_};
-ghost use Rattle.sets.specs.Fill.{fillAnswer};
-ghost use Rattle.heap.specs.Contracted.{enteredFrame, leafEntered, stores, contractedEntry, contractedEntries};
+ghost use Rattle.sets.specs.twins.Fill.{fillAnswer};
+ghost use Rattle.heap.specs.twins.Contracted.{enteredFrame, leafEntered, stores, contractedEntry, contractedEntries};
 
 // The entry i by what became of its range: its new range where it was filled. Done: what is used then.
 fn entered(
@@ -64,8 +64,8 @@ pub(crate) fn contract_entry(
     if known % 2 == 1 {
         return Filled::Done(used);
     }
-    let from = entry::wide(frame[3 * i + 1]);
-    let to = entry::wide(frame[3 * i + 2]);
+    let from = cell::wide(frame[3 * i + 1]);
+    let to = cell::wide(frame[3 * i + 2]);
     if cell::less(to, from) == 1 {
         let code = cell::cell(heap, from);
         contract_leaf(frame, i, code, x, vfrom, vto);

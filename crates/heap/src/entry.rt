@@ -1,27 +1,12 @@
 // Entries of the frame, three cells each: what is known of its value, and the range of it. What is known is 2 n + c: n is how many cells the head of a pair
 // has, so that where it ends need not be looked for; c is 1 where no variable stands in the value, so that a contraction passes it by. 0: it isn't known.
-use sets::cell;
+use cells::cell;
 ghost use mathlib.Core.Path.{_≡_};
 ghost use Prim.Native.Nat.{min, _+_, _-_, _<_, _≤_};
-ghost use Rattle.heap.specs.Entries.{entry, pushAnswer, pushed, movedDown, movedEntries, entryFrom, entryTo, nodesFrom};
+ghost use Rattle.heap.specs.twins.Entries.{entry, pushAnswer, pushed, movedDown, movedEntries, entryFrom, entryTo, nodesFrom};
 
 // The entries that the frame has room for.
 pub const ENTRIES: usize = 4120;
-
-// A place of the heap in a cell.
-pub fn narrow(x: usize) -> u16
-    ensures { λ r. ⌜ r ≡ min x 65535 ⌝ }
-{
-    let y = cell::least(x, 65535);
-    y as u16
-}
-
-// A place of the heap from a cell.
-pub fn wide(x: u16) -> usize
-    ensures { λ r. ⌜ (r ≡ x) × (r ≤ 65535) ⌝ }
-{
-    x as usize
-}
 
 // Done: the entries there are now. Full: there is no room for one more.
 pub enum Pushed {
@@ -34,8 +19,8 @@ pub(crate) fn put_entry(frame: &mut [u16; 12360], i: usize, known: u16, from: us
     requires { ⌜ i < 4120 ⌝ }
     ensures { λ _. ⌜ now (frame .exit) ≡ entry i known from to (now (frame .entry)) ⌝ }
 {
-    let a = narrow(from);
-    let b = narrow(to);
+    let a = cell::narrow(from);
+    let b = cell::narrow(to);
     frame[3 * i] = known;
     frame[3 * i + 1] = a;
     frame[3 * i + 2] = b;

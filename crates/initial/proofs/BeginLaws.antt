@@ -15,7 +15,7 @@ use Rattle.expressions.specs.Class.{IOClass}
 use Rattle.expressions.specs.Contraction.{CRPair}
 use Rattle.expressions.specs.Split.{firstFresh}
 use Rattle.expressions.proofs.Tests.{and-both}
-use Rattle.sets.specs.Restricting.{RestrictAnswer}
+use Rattle.sets.specs.twins.Restricting.{RestrictAnswer}
 use Rattle.sets.proofs.RestrictionLaws.{Front, Answers}
 use Rattle.language.specs.Program.{Param, pe, pa, Prog, find}
 use Rattle.language.specs.WellFormed.{fits, wellFormedDefs, wellFormed}
@@ -27,14 +27,14 @@ use Rattle.semantics.proofs.Environments.{bindParams-bound}
 use Rattle.semantics.proofs.Scopes.{WellScoped, defines-find, scoped-body}
 use Rattle.semantics.proofs.MainCall.{main-called}
 use Rattle.heap.specs.declared.configuration.Configuration.{Configuration as InCells}
-use Rattle.linking.specs.Linked.{ProgramLinked}
-use Rattle.linking.specs.Places.{envOf}
+use Rattle.linking.specs.twins.Linked.{ProgramLinked}
+use Rattle.linking.specs.twins.Places.{envOf}
 use Rattle.values.proofs.ValueLaws.{Typed, noneTyped, eTyped, aTyped}
 use Rattle.values.proofs.StateLaws.{trees, pair-nodes, nodes-length, Stands}
 use Rattle.values.proofs.BodyLaws.{found-linked}
-use Rattle.layout.specs.Fresh.{firstFreshCells}
-use Rattle.layout.specs.Laying.{jobLaid, partsOf, sidesTaken}
-use Rattle.initial.specs.Beginning.{EnterLeft, begunEntered, BegunLeft, besides, sidesBegun, begunAt, jobEntered}
+use Rattle.layout.specs.twins.Fresh.{firstFreshCells}
+use Rattle.layout.specs.twins.Laying.{jobLaid, partsOf, sidesTaken}
+use Rattle.initial.specs.twins.Beginning.{EnterLeft, begunEntered, BegunLeft, besides, sidesBegun, begunAt, jobEntered}
 use Rattle.layout.specs.declared.job.Parts.{Parts}
 use Rattle.initial.specs.declared.begin.Begun.the-variants.{On, None, Over}
 use Rattle.initial.proofs.EnterLaws.{JobOutcome, EntersJob, job-enters}

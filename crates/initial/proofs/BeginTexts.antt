@@ -25,11 +25,11 @@ use Rattle.language.specs.Reading.{readProgram, readJob, accepted, withJob, wit
 use Rattle.language.proofs.TokenNumbers.{SymbolNumber, VariableNumber}
 use Rattle.language.proofs.Numbers.{accepted-numbers}
 use Rattle.language.proofs.Acceptance.{accepted-passed}
-use Rattle.grammar.specs.Stored as stored
-use Rattle.checker.specs.StoredAt.{keyAt}
-use Rattle.lexer.specs.Lexed.{State}
-use Rattle.syntax.specs.Standing.{defineAt, DefsFrom, noneFrom, moreFrom}
-use Rattle.syntax.specs.PartEnds.{partEnds}
+use Rattle.grammar.specs.twins.Stored as stored
+use Rattle.checker.specs.twins.StoredAt.{keyAt}
+use Rattle.lexer.specs.twins.Lexed.{State}
+use Rattle.syntax.specs.twins.Standing.{defineAt, DefsFrom, noneFrom, moreFrom}
+use Rattle.syntax.specs.twins.PartEnds.{partEnds}
 use Rattle.syntax.specs.declared.job_ends.JobEnds.{JobEnds}
 use Rattle.syntax.proofs.StoredCheck.{stored-order}
 use Rattle.syntax.proofs.ReadAnswers.{text-accepted}
@@ -38,9 +38,9 @@ use Rattle.syntax.proofs.JobRead.{JobStored}
 use Rattle.syntax.proofs.PartLaws.{partsAt}
 use Rattle.syntax.proofs.JobParts.{job-parts, job-ends}
 use Rattle.semantics.specs.Configuration.{start}
-use Rattle.linking.specs.Linked.{ProgramLinked}
+use Rattle.linking.specs.twins.Linked.{ProgramLinked}
 use Rattle.linking.proofs.ProgramLaws.{bodiesOf}
-use Rattle.initial.specs.Beginning.{mainBody, begunAt}
+use Rattle.initial.specs.twins.Beginning.{mainBody, begunAt}
 use Rattle.initial.proofs.DataLaws.{datumCells, run-short, given-short, tokens-held, AtomicSides, exp-run, exps-run, sides-run}
 use Rattle.initial.proofs.JobLaws.{JobHere, job-laid}
 use Rattle.initial.proofs.BeginLaws.{BeginsAs, begin-means}

@@ -11,7 +11,7 @@ use borrow.Author.Tests.{eqb-true, eq-eqb, ne-eqb, lt-ltb, ltb-false}
 use Rattle.expressions.proofs.Predicates.{All}
 use Rattle.expressions.proofs.Numbers.{AtomicNumbers, ExpNumbers, NeqNumbers}
 use Rattle.sets.specs.Cells.{evarCode, symbolCode, avarCode, atomicCode, cells, cellsAll, restrictionCells}
-use Rattle.sets.specs.Fill.{fillAnswer}
+use Rattle.sets.specs.twins.Fill.{fillAnswer}
 use Rattle.sets.specs.declared.fill.Filled.the-variants.{Done}
 use Rattle.language.specs.Tokens.{tag, ofJob, Token}
 use Rattle.language.specs.Reader.{is}
@@ -19,18 +19,18 @@ use Rattle.language.specs.Program.{atomOf}
 use Rattle.language.specs.Scope.{isAtomic}
 use Rattle.language.specs.Source.{SExp, exp, exps, neqOf}
 use Rattle.language.proofs.TokenNumbers.{SymbolNumber, VariableNumber}
-use Rattle.lexer.specs.Marks as mark
-use Rattle.grammar.specs.Stored as stored
-use Rattle.grammar.specs.Stored.{markAt}
-use Rattle.checker.specs.StoredAt.{keyAt, tagAt, numAt}
-use Rattle.syntax.specs.Standing.{ExpAt, symbolAt, eAt, aAt, consAt, ExpsAt, SidesAt}
-use Rattle.syntax.specs.Standing as at
+use Rattle.words.specs.twins.Marks as mark
+use Rattle.grammar.specs.twins.Stored as stored
+use Rattle.grammar.specs.twins.Stored.{markAt}
+use Rattle.checker.specs.twins.StoredAt.{keyAt, tagAt, numAt}
+use Rattle.syntax.specs.twins.Standing.{ExpAt, symbolAt, eAt, aAt, consAt, ExpsAt, SidesAt}
+use Rattle.syntax.specs.twins.Standing as at
 use Rattle.syntax.proofs.JobLaws.{Fixed}
 use Rattle.syntax.proofs.StoredCheck.{key-of, kind-of, num-of}
-use Rattle.runs.specs.Runs.{written}
+use Rattle.runs.specs.twins.Runs.{written}
 use Rattle.runs.proofs.RunLaws.{written-done, sets-append}
-use Rattle.linking.specs.Linking.{keyOf, kindOf}
-use Rattle.layout.specs.Data.{datumCell, datumWritten, dataWritten}
+use Rattle.linking.specs.twins.Linking.{keyOf, kindOf}
+use Rattle.layout.specs.twins.Data.{datumCell, datumWritten, dataWritten}
 
 -- the cells that the token i gives
 abbrev pub datumCells : List ℕ → List ℕ → ℕ → List ℕ

@@ -12,8 +12,9 @@ use Rattle.expressions.specs.Class.{IOPair}
 use Rattle.expressions.specs.Split.{largest, largestAll}
 use Rattle.language.specs.Program.{Param, pe, pa, Prog, find, atomOf, Term}
 use Rattle.language.specs.WellFormed.{fits, wellFormed}
-use Rattle.semantics.specs.Embedding.{embed, embedEnv, atState, OneSuccessor}
-use Rattle.semantics.specs.Embedding as embedding
+use Rattle.semantics.specs.Embedding.{embed}
+use Rattle.semantics.proofs.EmbeddedStates.{embedEnv, atState, OneSuccessor}
+use Rattle.semantics.proofs.EmbeddedStates as embedding
 use Rattle.semantics.specs.Environment.{mapValues, addE, addA}
 use Rattle.semantics.specs.Figure4.{ValueEnv}
 use Rattle.semantics.specs.Evaluate.{Next, go, atomIn, bindInputs, step, startTerm, startEnv}
@@ -22,7 +23,7 @@ use Rattle.semantics.specs.Configuration.{groundEnv, nodesValues, nodesState, C
 use Rattle.semantics.specs.Trace.{Successors, called}
 use Rattle.semantics.proofs.Forward.{forward}
 use Rattle.semantics.proofs.MainCall.{start-successor, main-distinct}
-use Rattle.linking.specs.Places.{envOf}
+use Rattle.linking.specs.twins.Places.{envOf}
 
 -- inputs that no substitution changes are values
 abbrev pub noughts : GroundSubst
@@ -71,11 +72,11 @@ all-largest [] = refl
 all-largest (v ∷ vs) = omega (arith, embed-largest v, all-largest vs)
 
 -- "Its nodes are those of the inputs and the environment values": the symbol 0 in the place of the wanted output is one more
-embed-nodes : (v : Value) → nodes (embed v) ≡ nodesValue v
+pub embed-nodes : (v : Value) → nodes (embed v) ≡ nodesValue v
 embed-nodes (atom z) = refl
 embed-nodes (cons u v) = omega (arith, embed-nodes u, embed-nodes v)
 
-inputs-nodes : (vs : List Value) → nodesAll (map embed vs) ≡ nodesInputs vs
+pub inputs-nodes : (vs : List Value) → nodesAll (map embed vs) ≡ nodesInputs vs
 inputs-nodes [] = refl
 inputs-nodes (v ∷ vs) = omega (arith, embed-nodes v, inputs-nodes vs)
 

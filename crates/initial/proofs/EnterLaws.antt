@@ -8,16 +8,16 @@ use native.Mathlib.Decide.{decLe}
 use lib.ListN.{length}
 use Rattle.expressions.specs.Expression.{Exp}
 use Rattle.sets.specs.Cells.{cellsAll}
-use Rattle.runs.specs.Runs.{run}
-use Rattle.heap.specs.Entries.{PushAnswer, entry, pushed}
+use Rattle.runs.specs.twins.Runs.{run}
+use Rattle.heap.specs.twins.Entries.{PushAnswer, entry, pushed}
 use Rattle.heap.specs.declared.entry.Pushed.the-variants.{Done, Full}
 use Rattle.runs.proofs.RunLaws.{below-self}
 use Rattle.heap.proofs.HeapLaws.{Holds}
 use Rattle.heap.proofs.FrameLaws.{Held, held-front, entry-length}
 use Rattle.heap.proofs.FrameLaws as frame
 use Rattle.heap.proofs.PartLaws.{held-joined}
-use Rattle.initial.specs.Trees.{treesEntered}
-use Rattle.initial.specs.Beginning.{EnterLeft, enteredLeft, behindOutput, behindInputs, jobEntered}
+use Rattle.initial.specs.twins.Trees.{treesEntered}
+use Rattle.initial.specs.twins.Beginning.{EnterLeft, enteredLeft, behindOutput, behindInputs, jobEntered}
 use Rattle.initial.specs.declared.begin.Entered.the-variants.{Done as In, Full as NotIn}
 use Rattle.initial.proofs.InitialTurns.{pushed-full, pushed-on}
 use Rattle.initial.proofs.TreeLaws.{Outcome, trees-mean, entry-holds, entry-knows, entry-below}

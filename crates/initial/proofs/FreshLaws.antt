@@ -9,8 +9,8 @@ use Rattle.expressions.specs.Restriction.{Restriction}
 use Rattle.expressions.specs.Class.{IOClass}
 use Rattle.expressions.specs.Split.{largestAtomic, largest, largestAll, largestRestriction, firstFresh}
 use Rattle.sets.specs.Cells.{evarCode, avarCode, symbolCode, atomicCode, cells, cellsAll, restrictionCells}
-use Rattle.runs.specs.Runs.{run}
-use Rattle.layout.specs.Fresh.{numberCell, largestRun, firstFreshCells}
+use Rattle.runs.specs.twins.Runs.{run}
+use Rattle.layout.specs.twins.Fresh.{numberCell, largestRun, firstFreshCells}
 
 number-low : (x : ℕ) → x % 4 < 2 → numberCell x ≡ 0
 number-low x h = rw (lt-ltb (x % 4) 2 h)

@@ -5,12 +5,12 @@ use mathlib.Core.List.{List}
 use native.Mathlib.Omega.{arith}
 use native.Mathlib.Decide.{decLe}
 use borrow.Author.Tests.{lt-ltb, le-ltb, le-leb, lt-leb}
-use Rattle.sets.specs.Cells.{treeEnd}
-use Rattle.heap.specs.Entries.{PushAnswer, pushAnswer, entry, pushed}
+use Rattle.sets.specs.twins.Copying.{treeEnd}
+use Rattle.heap.specs.twins.Entries.{PushAnswer, pushAnswer, entry, pushed}
 use Rattle.heap.specs.declared.entry.Pushed.{Pushed}
 use Rattle.heap.specs.declared.entry.Pushed.the-variants.{Done as Now, Full}
 use Rattle.layout.proofs.LayoutTurns.{none-left, some-left}
-use Rattle.initial.specs.Trees.{onwardPush, treesFrom, treesEntered}
+use Rattle.initial.specs.twins.Trees.{onwardPush, treesFrom, treesEntered}
 
 module _ (n i : ℕ) (f : List ℕ) where
   pub pushed-full : 4120 ≤ n → (end : ℕ) → pushed n 0 i end f ≡ pushAnswer Full f

@@ -12,17 +12,18 @@ use Rattle.expressions.specs.Expression.{sym, Exp, atm}
 use Rattle.expressions.specs.Restriction.{simplify}
 use Rattle.expressions.specs.Class.{IOClass}
 use Rattle.expressions.specs.Split.{firstFresh}
-use Rattle.sets.specs.Cells.{cells, cellsAll, restrictionCells, copied}
-use Rattle.sets.specs.Fill.{fillAnswer}
+use Rattle.sets.specs.twins.Copying.{copied}
+use Rattle.sets.specs.Cells.{cells, cellsAll, restrictionCells}
+use Rattle.sets.specs.twins.Fill.{fillAnswer}
 use Rattle.sets.specs.declared.fill.Filled.the-variants.{Done}
 use Rattle.sets.proofs.CellLaws.{restrictionCells-nodes}
 use Rattle.sets.proofs.RestrictionLaws.{Answers, simplifyCells-means}
 use Rattle.syntax.specs.declared.job_ends.JobEnds.{JobEnds}
-use Rattle.runs.specs.Runs.{cellsAt, run}
+use Rattle.runs.specs.twins.Runs.{cellsAt, run}
 use Rattle.runs.proofs.RunLaws.{written-done, sets-append, run-drop}
 use Rattle.heap.proofs.HeapLaws.{Holds, sets-cells}
-use Rattle.layout.specs.Fresh.{firstFreshCells}
-use Rattle.layout.specs.Laying.{partsOf, LaidLeft, laidLeft, outputLaid, sidesLaid, endsLaid, jobLaid, sidesTaken}
+use Rattle.layout.specs.twins.Fresh.{firstFreshCells}
+use Rattle.layout.specs.twins.Laying.{partsOf, LaidLeft, laidLeft, outputLaid, sidesLaid, endsLaid, jobLaid, sidesTaken}
 use Rattle.layout.specs.declared.job.Laid.the-variants.{Done as Lies}
 use Rattle.initial.proofs.DataLaws.{datumCells, Run, run-laid}
 use Rattle.initial.proofs.FreshLaws.{fresh-means}

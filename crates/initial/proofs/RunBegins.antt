@@ -18,20 +18,21 @@ use Rattle.language.specs.JobCheck.{runner}
 use Rattle.language.specs.Reading.{accepted, reading}
 use Rattle.language.proofs.Numbers.{accepted-numbers}
 use Rattle.language.proofs.Acceptance.{accepted-passed}
-use Rattle.checker.specs.StoredAt.{keyAt}
-use Rattle.lexer.specs.Lexed.{State}
-use Rattle.syntax.specs.PartEnds.{partEnds}
+use Rattle.checker.specs.twins.StoredAt.{keyAt}
+use Rattle.lexer.specs.twins.Lexed.{State}
+use Rattle.syntax.specs.twins.PartEnds.{partEnds}
 use Rattle.syntax.specs.declared.job_ends.JobEnds.{JobEnds}
 use Rattle.syntax.proofs.JobRead.{JobStored}
-use Rattle.semantics.specs.Embedding.{embed, embedEnv, atState}
+use Rattle.semantics.specs.Embedding.{embed}
+use Rattle.semantics.proofs.EmbeddedStates.{embedEnv, atState}
 use Rattle.semantics.specs.Evaluate.{go, startEnv}
 use Rattle.semantics.specs.Runner.{nodesNext}
 use Rattle.semantics.specs.Answer.{inputs}
 use Rattle.semantics.specs.Configuration.{ExpEnv, nodesState, Configuration, start}
 use Rattle.semantics.proofs.Scopes.{WellScoped}
-use Rattle.linking.specs.Linked.{ProgramLinked}
-use Rattle.linking.specs.Places.{envOf}
-use Rattle.initial.specs.Beginning.{BegunLeft, begunAt}
+use Rattle.linking.specs.twins.Linked.{ProgramLinked}
+use Rattle.linking.specs.twins.Places.{envOf}
+use Rattle.initial.specs.twins.Beginning.{BegunLeft, begunAt}
 use Rattle.initial.specs.declared.begin.Begun.the-variants.{Over}
 use Rattle.initial.proofs.DataLaws.{datumCells, Run}
 use Rattle.initial.proofs.EmbedLaws.{noughts, ones, all-embed, bound-embed, all-largest, runPair, run-nodes}

@@ -9,17 +9,18 @@ use native.Mathlib.Numerals.{add-one}
 use lib.ListN.{length, take, drop, getD, length-append}
 use lib.Seq.{drop-cons, take-at, drop-at}
 use Rattle.expressions.specs.Expression.{Exp, atm, evar, pair, nodes}
-use Rattle.sets.specs.Cells.{cells, cellsAll, treeEnd}
+use Rattle.sets.specs.twins.Copying.{treeEnd}
+use Rattle.sets.specs.Cells.{cells, cellsAll}
 use Rattle.sets.proofs.CellLaws.{stands-end, cells-nodes}
-use Rattle.runs.specs.Runs.{cellsAt, run}
-use Rattle.heap.specs.Entries.{PushAnswer, entry, entryKnown, entryFrom, entryTo, pushed}
+use Rattle.runs.specs.twins.Runs.{cellsAt, run}
+use Rattle.heap.specs.twins.Entries.{PushAnswer, entry, entryKnown, entryFrom, entryTo, pushed}
 use Rattle.heap.specs.declared.entry.Pushed.the-variants.{Done, Full}
 use Rattle.runs.proofs.RunLaws.{Below, below-self, length-cellsAt, run-drop, cells-split}
 use Rattle.heap.proofs.HeapLaws.{Holds, nodes-positive}
 use Rattle.heap.proofs.FrameLaws.{Held, entry-length, entry-before, entry-known, entry-from, entry-to}
 use Rattle.heap.proofs.KnownLaws.{KnownOf, unknown}
 use Rattle.heap.proofs.FrameLaws as frame
-use Rattle.initial.specs.Trees.{onwardPush, treesEntered}
+use Rattle.initial.specs.twins.Trees.{onwardPush, treesEntered}
 use Rattle.initial.proofs.InitialTurns.{trees-end, trees-turn, pushed-full, pushed-on}
 
 -- the two parts of a run

@@ -1,8 +1,8 @@
 // "The start state is the call of main on the inputs." Its term stands in no text, so that what is made here is its successor: main's body, its
 // parameters bound to the inputs.
 use crate::trees::enter_trees;
+use cells::cell;
 use heap::configuration::Configuration;
-use heap::entry;
 use heap::entry::Pushed;
 use heap::entry::push_entry;
 use layout::fresh::first_fresh;
@@ -11,17 +11,16 @@ use layout::job::Parts;
 use layout::job::lay_job;
 use layout::job::take_sides;
 use linking::terms::closing;
-use sets::cell;
 use sets::restriction::Restricted;
 use syntax::job_ends::JobEnds;
 ghost use mathlib.Core.Path.{_≡_};
-ghost use Rattle.initial.specs.Beginning.{mainBody, enteredAs, enterLeft, valuesEntered, outputEntered, jobEntered, begunWith, begunFrame, keptBegun, begunLeft, laidBegun, begunAt};
+ghost use Rattle.initial.specs.twins.Beginning.{mainBody, enteredAs, enterLeft, valuesEntered, outputEntered, jobEntered, begunWith, begunFrame, keptBegun, begunLeft, laidBegun, begunAt};
 
 // Where main's body starts, by the index of its name: behind its parameters.
 pub fn main_body(marks: &[u16], heads: &[u16; 64]) -> usize
     ensures { λ r. ⌜ r ≡ mainBody (now (marks .entry)) (now (heads .entry)) ⌝ }
 {
-    let name = entry::wide(heads[0]);
+    let name = cell::wide(heads[0]);
     let open = cell::least(name, 4097) + 2;
     cell::least(closing(marks, open), 4097) + 1
 }

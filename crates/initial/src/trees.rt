@@ -1,10 +1,10 @@
 // Trees that stand one behind the other in the heap, as entries of the frame.
 use heap::entry::Pushed;
 use heap::entry::push_entry;
-use sets::cell;
+use sets::tree;
 ghost use mathlib.Core.Path.{_≡_};
-ghost use Rattle.heap.specs.Entries.{pushAnswer};
-ghost use Rattle.initial.specs.Trees.{treesEntered};
+ghost use Rattle.heap.specs.twins.Entries.{pushAnswer};
+ghost use Rattle.initial.specs.twins.Trees.{treesEntered};
 
 // An entry behind n for each tree that stands in the heap from `from` up to `to`. Done: the entries there are then.
 pub(crate) fn enter_trees(
@@ -19,7 +19,7 @@ pub(crate) fn enter_trees(
     let mut k = n;
     let mut i = from;
     while i < to {
-        let end = cell::tree_end(heap, i);
+        let end = tree::tree_end(heap, i);
         let p = push_entry(frame, k, 0, i, end);
         match p {
             Pushed::Done(m) => {

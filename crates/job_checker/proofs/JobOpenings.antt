@@ -7,17 +7,17 @@ use lib.Dec.{eqb, leb, ltb}
 use lib.ListN.{length, getD, set}
 use Rattle.checker.specs.declared.check.Verdict.{Verdict}
 use Rattle.checker.specs.declared.check.Verdict.the-variants.{Fine}
-use Rattle.checker.specs.CheckAt.{first, ahead, walked, arguments, pick}
-use Rattle.job_checker.specs.JobCheckAt.{datumLeaf, datumPair, datumAt, inputAt, inputsAt, markedFrom, twoSides, sidesAt}
-use Rattle.job_checker.specs.JobStored.{numeralFrom}
+use Rattle.checker.specs.twins.CheckAt.{first, ahead, walked, arguments, pick}
+use Rattle.job_checker.specs.twins.JobCheckAt.{datumLeaf, datumPair, datumAt, inputAt, inputsAt, markedFrom, twoSides, sidesAt}
+use Rattle.job_checker.specs.twins.JobStored.{numeralFrom}
 use Rattle.checker.proofs.CheckOpenings.{less, counted-out, counted-on}
 
-pub datum-none : {k : ℕ} → k ≡ 0 → (key kind at : ℕ → ℕ) (n : ℕ) (runs : Bool) (i : ℕ) → datumAt key kind at n runs k i ≡ datumLeaf key kind at n runs i
+pub datum-none : {k : ℕ} → k ≡ 0 → (key kind at : ℕ → ℕ) (n : ℕ) (runs : Bool) (i : ℕ) → datumAt key kind at n runs k i ≡ datumLeaf kind at n runs i
 unfolding datumAt
 datum-none e key kind at n runs i = rw e
 
 pub datum-more : {k : ℕ} → (k ≡ 0 → ⊥) → (key kind at : ℕ → ℕ) (n : ℕ) (runs : Bool) (i : ℕ) →
-    datumAt key kind at n runs k i ≡ pick (eqb (key i) 1) (datumPair key kind at n runs (λ j. datumAt key kind at n runs (k - 1) j)) (datumLeaf key kind at n runs) i
+    datumAt key kind at n runs k i ≡ pick (eqb (key i) 1) (datumPair n (λ j. datumAt key kind at n runs (k - 1) j)) (datumLeaf kind at n runs) i
 unfolding datumAt
 datum-more {k = zero} f key kind at n runs i = absurd (f refl)
 datum-more {k = suc k} f key kind at n runs i = rw (less k)

@@ -1,2 +1,1 @@
-pub mod JobCheckAt
-pub mod JobStored
+pub mod twins

@@ -1,5 +1,8 @@
 // The check of a job by its tokens: "Job: 10, 11, 12" (01, "From the input"). The tokens, n of the job and m of the program before it, were
 // read without refusal; `main` holds the marks of the program's, `runs` is whether the tool is the runner.
+use cells::cell::byte;
+use cells::cell::cell;
+use cells::cell::put;
 use checker::check::Args;
 use checker::check::Verdict;
 use checker::check::Walked;
@@ -13,25 +16,22 @@ use checker::places::key;
 use checker::places::kind;
 use checker::places::num;
 use checker::places::offset;
-use lexer::cells::byte;
-use lexer::cells::cell;
-use lexer::cells::put;
-use lexer::keys::ANAME;
-use lexer::keys::AVARIABLE;
-use lexer::keys::CLOSE;
-use lexer::keys::CLOSE_LIST;
-use lexer::keys::EVARIABLE;
-use lexer::keys::OPEN;
-use lexer::keys::SYMBOL;
+use words::keys::ANAME;
+use words::keys::AVARIABLE;
+use words::keys::CLOSE;
+use words::keys::CLOSE_LIST;
+use words::keys::EVARIABLE;
+use words::keys::OPEN;
+use words::keys::SYMBOL;
 ghost use mathlib.Core.Path.{_≡_};
 ghost use Prim.Native.Nat.{_-_};
 ghost use mathlib.Core.Bool.{true, false};
 ghost use Rattle.checker.specs.declared.check.Verdict.the-variants.{Fine};
-ghost use Rattle.job_checker.specs.JobStored.{numeralFrom, datumLeaf, datumAt, atomicAt, inputAt, inputsAt, markedFrom, sideAt, twoSides, sidesAt, boundsAt, tensAt, elevensAt, jobAt};
+ghost use Rattle.job_checker.specs.twins.JobStored.{numeralFrom, datumLeaf, datumAt, atomicAt, inputAt, inputsAt, markedFrom, sideAt, twoSides, sidesAt, boundsAt, tensAt, elevensAt, jobAt};
 
 // "in the runner, any variable in an input (offset: the variable)".
 fn datum_leaf(marks: &[u16], ats: &[u16], n: usize, runs: bool, i: usize) -> Walked
-    ensures { λ r. ⌜ r ≡ datumLeaf (now (marks .entry)) (now (ats .entry)) (now (ats .entry)) n runs i ⌝ }
+    ensures { λ r. ⌜ r ≡ datumLeaf (now (marks .entry)) (now (ats .entry)) n runs i ⌝ }
 {
     let passes = either(kind(marks, n, i) == SYMBOL, negated(runs));
     Walked {
@@ -43,7 +43,7 @@ fn datum_leaf(marks: &[u16], ats: &[u16], n: usize, runs: bool, i: usize) -> Wal
 
 // A d: "`(cons d d)`, `'Z`, `?eK` or `?aK`".
 fn datum(marks: &[u16], ats: &[u16], n: usize, runs: bool, room: usize, i: usize) -> Walked
-    ensures { λ r. ⌜ r ≡ datumAt (now (marks .entry)) (now (ats .entry)) (now (ats .entry)) n runs room i ⌝ }
+    ensures { λ r. ⌜ r ≡ datumAt (now (marks .entry)) (now (ats .entry)) n runs room i ⌝ }
 {
     if room == 0 {
         return datum_leaf(marks, ats, n, runs, i);
@@ -64,8 +64,8 @@ fn datum(marks: &[u16], ats: &[u16], n: usize, runs: bool, room: usize, i: usize
     datum_leaf(marks, ats, n, runs, i)
 }
 
-fn atomic(marks: &[u16], n: usize, runs: bool, i: usize) -> bool
-    ensures { λ r. ⌜ r ≡ atomicAt (now (marks .entry)) (now (marks .entry)) (now (marks .entry)) n runs i ⌝ }
+fn atomic(marks: &[u16], n: usize, i: usize) -> bool
+    ensures { λ r. ⌜ r ≡ atomicAt (now (marks .entry)) n i ⌝ }
 {
     both(
         negated(key(marks, n, i) == OPEN),
@@ -84,15 +84,12 @@ fn input(
     p: usize,
     i: usize,
 ) -> Walked
-    ensures { λ r. ⌜ r ≡ inputAt (now (marks .entry)) (now (ats .entry)) (now (ats .entry)) n runs (now (main .entry)) m p i ⌝ }
+    ensures { λ r. ⌜ r ≡ inputAt (now (marks .entry)) (now (ats .entry)) n runs (now (main .entry)) m p i ⌝ }
 {
     let c = datum(marks, ats, n, runs, 62, i);
     let end = c.past;
     let u = c.uses;
-    let passes = either(
-        negated(kind(main, m, p) == ANAME),
-        atomic(marks, n, runs, i),
-    );
+    let passes = either(negated(kind(main, m, p) == ANAME), atomic(marks, n, i));
     let v = judge(passes, 10, offset(ats, n, i));
     Walked {
         past: end,
@@ -112,7 +109,7 @@ fn inputs(
     p: usize,
     i: usize,
 ) -> Args
-    ensures { λ r. ⌜ r ≡ inputsAt (now (marks .entry)) (now (ats .entry)) (now (ats .entry)) n runs (now (main .entry)) m n p true Fine i ⌝ }
+    ensures { λ r. ⌜ r ≡ inputsAt (now (marks .entry)) (now (ats .entry)) n runs (now (main .entry)) m n p true Fine i ⌝ }
 {
     let mut left = n;
     let mut param = p;
@@ -146,7 +143,7 @@ fn inputs(
 
 // Stores 1 in the cell of each `?aK` that stands from `j` to before `end`: one pass, so that no side is searched for.
 fn mark_variables(marks: &[u16], nums: &[u16], n: usize, end: usize, j: usize, marked: &mut [u16])
-    ensures { λ _. ⌜ now (marked .exit) ≡ markedFrom (now (marks .entry)) (now (nums .entry)) (now (nums .entry)) n false (end - j) j (now (marked .entry)) ⌝ }
+    ensures { λ _. ⌜ now (marked .exit) ≡ markedFrom (now (marks .entry)) (now (nums .entry)) n (end - j) j (now (marked .entry)) ⌝ }
 {
     let mut at = j;
     while at < end {
@@ -160,12 +157,12 @@ fn mark_variables(marks: &[u16], nums: &[u16], n: usize, end: usize, j: usize, m
 }
 
 // "11 a `neq` side not atomic, or its `?a` in neither input nor output": those that stand there are marked.
-fn side(marks: &[u16], nums: &[u16], n: usize, runs: bool, marked: &[u16], i: usize) -> bool
-    ensures { λ r. ⌜ r ≡ sideAt (now (marks .entry)) (now (nums .entry)) (now (nums .entry)) n runs (now (marked .entry)) i ⌝ }
+fn side(marks: &[u16], nums: &[u16], n: usize, marked: &[u16], i: usize) -> bool
+    ensures { λ r. ⌜ r ≡ sideAt (now (marks .entry)) (now (nums .entry)) n (now (marked .entry)) i ⌝ }
 {
-    let there = cell(marked, num(nums, n, i) as usize, 0) == 1;
+    let there = cell(marked, num(nums, n, i) as usize) == 1;
     both(
-        atomic(marks, n, runs, i),
+        atomic(marks, n, i),
         either(kind(marks, n, i) == SYMBOL, there),
     )
 }
@@ -186,8 +183,8 @@ fn two_sides(
     let d = c.past;
     let e = datum(marks, ats, n, runs, 61, d);
     let last = e.past;
-    let u = judge(side(marks, nums, n, runs, marked, i), 11, offset(ats, n, i));
-    let v = judge(side(marks, nums, n, runs, marked, d), 11, offset(ats, n, d));
+    let u = judge(side(marks, nums, n, marked, i), 11, offset(ats, n, i));
+    let v = judge(side(marks, nums, n, marked, d), 11, offset(ats, n, d));
     Walked {
         past: ahead(n, 1, last),
         names: Verdict::Fine,
@@ -261,7 +258,7 @@ pub fn numeral(text: &[u8], left: usize, i: usize, v: usize) -> usize
 
 // "N is 0 to 1,000, W 0 to 1,000,000, T 0 to 256"; the non-equalities end at `c`.
 fn bounds(text: &[u8], ats: &[u16], n: usize, c: usize) -> Verdict
-    ensures { λ r. ⌜ r ≡ boundsAt (now (ats .entry)) (now (ats .entry)) (now (ats .entry)) n false (now (text .entry)) c ⌝ }
+    ensures { λ r. ⌜ r ≡ boundsAt (now (ats .entry)) n (now (text .entry)) c ⌝ }
 {
     let steps = offset(ats, n, ahead(n, 3, c));
     let walk = offset(ats, n, ahead(n, 7, c));
@@ -282,7 +279,7 @@ fn tens(
     m: usize,
     p: usize,
 ) -> Walked
-    ensures { λ r. ⌜ r ≡ tensAt (now (marks .entry)) (now (ats .entry)) (now (ats .entry)) n runs (now (main .entry)) m p ⌝ }
+    ensures { λ r. ⌜ r ≡ tensAt (now (marks .entry)) (now (ats .entry)) n runs (now (main .entry)) m p ⌝ }
 {
     let ins = inputs(marks, ats, n, runs, main, m, p, 4);
     let a = ins.past;

@@ -1,6 +1,7 @@
 pub mod Tests
 pub mod Acceptance
 pub mod Readings
+pub mod VerdictNumbers
 pub mod ReaderLaws
 pub mod TokenNumbers
 pub mod Numbers

@@ -1,4 +1,4 @@
--- The numbers in accepted texts: those of symbols, names and variables are bounded.
+-- The numbers in accepted texts: those of symbols, names and variables are bounded. And the number of a refusal.
 use Prim.Native.Nat.{ℕ, zero, suc, _≤_}
 use Prim.Native.String.{String}
 use mathlib.Core.Path.{_≡_, subst}
@@ -11,7 +11,7 @@ use Rattle.expressions.specs.Split.{largest, largestAll, largestRestriction, fi
 use Rattle.expressions.proofs.Predicates.{All}
 use Rattle.expressions.proofs.Numbers.{AtomicNumbers, ExpNumbers, NeqNumbers, ClassNumbers}
 use Rattle.language.specs.Program.{Condition, eqa, consp, Term, call, conditional, result, Param, pe, pa, Def, Prog, atomOf}
-use Rattle.language.specs.Bytes.{Verdict, bytesVerdict}
+use Rattle.language.specs.Bytes.{Refusal, Verdict, bytesVerdict}
 use Rattle.language.specs.Words.{Word}
 use Rattle.language.specs.ProgramCheck.{programVerdict}
 use Rattle.language.specs.JobCheck.{Tool, jobVerdict}
@@ -20,6 +20,7 @@ use Rattle.language.specs.Reader.{Res, ok, refused, andThen, unlessFault
 use Rattle.language.specs.Source.{Stand, SExp, symS, evarS, avarS, pairS, eqaS, conspS, STerm, callS, conditionalS, resultS, SParam, SDef, SProg, SJob, exp, exps, condition, term, params, progOf, prog, neqOf, class}
 use Rattle.language.specs.Grammar
 use Rattle.language.specs.Reading.{readText, readProgram, readJob, Reading, accepted, rejected, withJob, withProgram, reading}
+use Rattle.language.proofs.VerdictNumbers.{Stated, OfVerdict, bytes-stated, program-stated, job-stated}
 use Rattle.language.proofs.ReaderLaws.{Result, Reads, give-reads, take-reads, wrong-reads, bind-reads, then-reads, choose-reads, upTo-reads}
 use Rattle.language.proofs.TokenNumbers.{SymbolNumber, NameNumber, VariableNumber, KindNumber, TokenNumber, text-numbered, one-reads}
 
@@ -174,30 +175,30 @@ job-reads = then-reads (take-reads _) (then-reads (take-reads _)
     bind-reads (part-reads "table" _ (word-reads ofJob plain)) (λ t k.
     then-reads (take-reads _) (choose-reads (give-reads _ (x, y, z)) wrong-reads)))))))))
 
--- of a text that was read, of two that were accepted
+-- of a text that was read, of two that were accepted; a refusal has one of the stated numbers
 abbrev OfRes : {A : Type 0} → (A → Type 0) → Res A → Type 0
 OfRes Q (ok a) = Q a
-OfRes Q (refused r) = Unit {0}
+OfRes Q (refused r) = Stated (r .number)
 
 abbrev OfReading : (SProg → SJob → Type 0) → Reading → Type 0
 OfReading Q (accepted s t) = Q s t
-OfReading Q (rejected x r) = Unit {0}
+OfReading Q (rejected x r) = Stated (r .number)
 
-text-reads : {A : Type 0} {Q : A → Type 0} (text : Text) (limit : ℕ) (m : Reader A) (check : A → Verdict) (before : List Word) (bs : List ℕ) → Bounds text Q m →
+text-reads : {A : Type 0} {Q : A → Type 0} (text : Text) (limit : ℕ) (m : Reader A) (check : A → Verdict) (before : List Word) (bs : List ℕ) → Bounds text Q m → ((a : A) → OfVerdict (check a)) →
     OfRes Q (readText text limit m check before bs)
-text-reads {A} {Q} text limit m check before bs h = bytes (bytesVerdict limit bs)
+text-reads {A} {Q} text limit m check before bs h k = bytes (bytesVerdict limit bs) (bytes-stated limit bs)
   where
-    pass : (a : A) → Q a → (v : Verdict) → OfRes Q (unlessFault v a)
-    pass a q none = q
-    pass a q (some r) = tt
+    pass : (a : A) → Q a → (v : Verdict) → OfVerdict v → OfRes Q (unlessFault v a)
+    pass a q none o = q
+    pass a q (some r) o = o
 
     parsed : (x : Res (A × List Token)) → Result (TokenNumber text) Q x → OfRes Q (andThen x (λ r. unlessFault (check (r .0)) (r .0)))
-    parsed (ok r) q = pass (r .0) (q .0) (check (r .0))
-    parsed (refused r) q = tt
+    parsed (ok r) q = pass (r .0) (q .0) (check (r .0)) (k (r .0))
+    parsed (refused r) q = q
 
-    bytes : (v : Verdict) → OfRes Q (andThen (unlessFault v bs) (λ bs. andThen (m (tokens text before bs)) (λ r. unlessFault (check (r .0)) (r .0))))
-    bytes none = parsed (m (tokens text before bs)) (h .result (tokens text before bs) (text-numbered text before bs))
-    bytes (some r) = tt
+    bytes : (v : Verdict) → OfVerdict v → OfRes Q (andThen (unlessFault v bs) (λ bs. andThen (m (tokens text before bs)) (λ r. unlessFault (check (r .0)) (r .0))))
+    bytes none o = parsed (m (tokens text before bs)) (h .result (tokens text before bs) (text-numbered text before bs))
+    bytes (some r) o = o
 
 -- the largest K
 largest-le : (c : Exp) → ExpNumbers SymbolNumber VariableNumber c → largest c ≤ 999
@@ -227,14 +228,23 @@ numbers-from s t h k =
     let m = largestRestriction-le (class t .neqs) (k .2) in
     record { program = h; job = k; largest = l; largestNeqs = m; fresh = omega arith }
 
-pub accepted-numbers : (tool : Tool) (p j : List ℕ) (s : SProg) (t : SJob) → reading tool p j ≡ accepted s t → Numbers s t
+reading-numbers : (tool : Tool) (p j : List ℕ) → OfReading Numbers (reading tool p j)
 unfolding reading readProgram readJob
-accepted-numbers tool p j s t e = subst (OfReading Numbers) e (both (readProgram p) (text-reads ofProgram 32768 Grammar.program programVerdict [] p program-reads))
+reading-numbers tool p j = both (readProgram p) (text-reads ofProgram 32768 Grammar.program programVerdict [] p program-reads program-stated)
   where
     job : (s : SProg) → ProgNumbers SymbolNumber NameNumber (prog s) → (x : Res SJob) → OfRes (λ t. ClassNumbers SymbolNumber VariableNumber (class t)) x → OfReading Numbers (withJob s x)
     job s h (ok t) k = numbers-from s t h k
-    job s h (refused r) k = tt
+    job s h (refused r) k = k
 
     both : (x : Res SProg) → OfRes (λ s. ProgNumbers SymbolNumber NameNumber (prog s)) x → OfReading Numbers (withProgram (λ s. readJob tool s (symbolsOf [] p) j) x)
-    both (ok s) h = job s h (readJob tool s (symbolsOf [] p) j) (text-reads ofJob 8192 Grammar.jobText (jobVerdict tool (params (s .main .params))) (symbolsOf [] p) j job-reads)
-    both (refused r) h = tt
+    both (ok s) h =
+        let xs = params (s .main .params) in
+        job s h (readJob tool s (symbolsOf [] p) j) (text-reads ofJob 8192 Grammar.jobText (jobVerdict tool xs) (symbolsOf [] p) j job-reads (job-stated tool xs))
+    both (refused r) h = h
+
+pub accepted-numbers : (tool : Tool) (p j : List ℕ) (s : SProg) (t : SJob) → reading tool p j ≡ accepted s t → Numbers s t
+accepted-numbers tool p j s t e = subst (OfReading Numbers) e (reading-numbers tool p j)
+
+-- "texts .. outside the rules are refused by the stated number"
+pub rejected-number : (tool : Tool) (p j : List ℕ) (x : Text) (r : Refusal) → reading tool p j ≡ rejected x r → Stated (r .number)
+rejected-number tool p j x r e = subst (OfReading Numbers) e (reading-numbers tool p j)

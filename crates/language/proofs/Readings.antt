@@ -129,6 +129,8 @@ cases =
     anyJob ofProgram 2 1 ∷
     case 86 lister anyProgram
     (txt "(job (in) (out 'A) (neq) (steps 9) (walk 9) (table 10000000))") ofJob 4 51 ∷
+    case 90 lister (txt "(define f [] (call g [e.x]))")
+    anyJob ofProgram 7 19 ∷
     []
 
 computed : List Case → List Reading

@@ -4,13 +4,13 @@ use mathlib.Core.Path.{_≡_}
 use mathlib.Core.List.{List}
 use native.Mathlib.Omega.{arith}
 use lib.ListN.{getD}
-use Rattle.sets.specs.Fill.{fillAnswer}
+use Rattle.sets.specs.twins.Fill.{fillAnswer}
 use Rattle.sets.specs.declared.fill.Filled.the-variants.{Done}
-use Rattle.runs.specs.Runs.{run}
+use Rattle.runs.specs.twins.Runs.{run}
 use Rattle.runs.proofs.RunLaws.{run-cons, run-end}
-use Rattle.values.specs.Values.{onwardFill}
-use Rattle.layout.specs.Data.{datumWritten, dataWritten}
-use Rattle.layout.specs.Fresh.{numberCell, largestRun}
+use Rattle.values.specs.twins.Values.{onwardFill}
+use Rattle.layout.specs.twins.Data.{datumWritten, dataWritten}
+use Rattle.layout.specs.twins.Fresh.{numberCell, largestRun}
 
 pub none-left : (c j : ℕ) → c ≤ j → c - j ≡ 0
 none-left c j l = omega arith

@@ -1,3 +1,1 @@
-pub mod Data
-pub mod Fresh
-pub mod Laying
+pub mod twins

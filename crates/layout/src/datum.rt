@@ -1,40 +1,28 @@
 // The cells of a job's data, read off its tokens: a bracket gives no cell, `cons` the cell of a pair, a symbol and a variable their
 // codes. A token's mark is its key + 32 * the tag of its kind + ..
-use lexer::keys::AVARIABLE;
-use lexer::keys::CONS;
-use lexer::keys::EVARIABLE;
-use lexer::keys::SYMBOL;
-use sets::cell;
+use cells::cell;
+use linking::tokens::key;
+use linking::tokens::kind;
 use sets::contraction;
 use sets::fill::Filled;
+use sets::tree;
+use words::keys::AVARIABLE;
+use words::keys::CONS;
+use words::keys::EVARIABLE;
+use words::keys::SYMBOL;
 ghost use mathlib.Core.Path.{_≡_};
 ghost use Prim.Native.Nat.{_-_};
 ghost use mathlib.Core.List.{_∷_, []};
-ghost use Rattle.sets.specs.Fill.{fillAnswer};
-ghost use Rattle.runs.specs.Runs.{written};
-ghost use Rattle.linking.specs.Linking.{keyOf, kindOf};
-ghost use Rattle.layout.specs.Data.{datumCell, datumWritten, dataWritten};
-
-// The token's place among the fixed words.
-fn key(marks: &[u16], i: usize) -> u16
-    ensures { λ r. ⌜ r ≡ keyOf (now (marks .entry)) i ⌝ }
-{
-    cell::cell(marks, i) % 32
-}
-
-// The token's kind, by its tag.
-fn kind(marks: &[u16], i: usize) -> u16
-    ensures { λ r. ⌜ r ≡ kindOf (now (marks .entry)) i ⌝ }
-{
-    cell::cell(marks, i) / 32 % 8
-}
+ghost use Rattle.sets.specs.twins.Fill.{fillAnswer};
+ghost use Rattle.runs.specs.twins.Runs.{written};
+ghost use Rattle.layout.specs.twins.Data.{datumCell, datumWritten, dataWritten};
 
 // The code that the token i gives; 0, which is no node, if it gives none.
 fn datum_cell(jmarks: &[u16], jnums: &[u16], i: usize) -> u16
     ensures { λ r. ⌜ r ≡ datumCell (now (jmarks .entry)) (now (jnums .entry)) i ⌝ }
 {
     if key(jmarks, i) == CONS {
-        return cell::PAIR;
+        return tree::PAIR;
     }
     let number = cell::cell(jnums, i);
     let tag = kind(jmarks, i);

@@ -1,10 +1,10 @@
 // "Fresh numbers start one above the largest K of either kind in the job."
+use cells::cell;
 use runs::run;
-use sets::cell;
 ghost use mathlib.Core.Path.{_≡_};
 ghost use Prim.Native.Nat.{_≤_, max, min};
-ghost use Rattle.runs.specs.Runs.{run};
-ghost use Rattle.layout.specs.Fresh.{numberCell, largestRun, firstFreshCells};
+ghost use Rattle.runs.specs.twins.Runs.{run};
+ghost use Rattle.layout.specs.twins.Fresh.{numberCell, largestRun, firstFreshCells};
 
 // The number of a variable, by its code; 0 for what is none.
 fn number_of(x: u16) -> u16

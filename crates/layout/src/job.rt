@@ -1,15 +1,16 @@
 // A job in the heap: its inputs, behind them the wanted output, behind it the sides of the non-equalities.
 use crate::datum::lay_cell;
 use crate::datum::lay_data;
-use sets::cell;
+use cells::cell;
 use sets::fill::Filled;
 use sets::restriction;
 use sets::restriction::Restricted;
+use sets::tree;
 use syntax::job_ends::JobEnds;
 ghost use mathlib.Core.Path.{_≡_};
-ghost use Rattle.sets.specs.Fill.{fillAnswer};
-ghost use Rattle.sets.specs.Restricting.{restrictAnswer};
-ghost use Rattle.layout.specs.Laying.{outputLaid, sidesLaid, laidAs, laidLeft, endsLaid, jobLaid, sidesTaken};
+ghost use Rattle.sets.specs.twins.Fill.{fillAnswer};
+ghost use Rattle.sets.specs.twins.Restricting.{restrictAnswer};
+ghost use Rattle.layout.specs.twins.Laying.{outputLaid, sidesLaid, laidAs, laidLeft, endsLaid, jobLaid, sidesTaken};
 
 // The index of the first input in a job.
 const INPUTS: usize = 4;
@@ -114,7 +115,7 @@ pub fn take_sides(heap: &[u16; 65535], q: &mut [u16; 4096], from: usize, to: usi
     ensures { λ r. ⌜ restrictAnswer r (now (q .exit)) ≡ sidesTaken from to (now (heap .entry)) (now (q .entry)) ⌝ }
 {
     let n = to - cell::least(from, to);
-    if cell::copy(heap, from, n, q, 0) {
+    if tree::copy(heap, from, n, q, 0) {
         return restriction::simplify(q, n / 2);
     }
     Restricted::Full

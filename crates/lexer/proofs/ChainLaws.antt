@@ -11,9 +11,9 @@ use borrow.Author.Tests.{eq-eqb, ne-eqb, eqb-true, lt-ltb}
 use lib.ListN.{length, getD, set, length-set, replicate, length-replicate, getD-replicate}
 use lib.Seq.{getD-set-same, getD-set-other}
 use Rattle.language.specs.Words.{Word, same}
-use Rattle.lexer.specs.Table.{wordIn, entryIs, findAt, entered}
-use Rattle.lexer.specs.Lexed.{counted, enteredIf}
-use Rattle.lexer.specs.Chains.{bucketOf, newestOf, Chained, linked, linkedIf, linkedAll, Linked}
+use Rattle.lexer.specs.twins.Table.{wordIn, entryIs, findAt, entered}
+use Rattle.lexer.specs.twins.Lexed.{counted, enteredIf}
+use Rattle.lexer.specs.twins.Chains.{bucketOf, newestOf, Chained, linked, linkedIf, linkedAll, Linked}
 use Rattle.lexer.proofs.TableLaws.{find-none, find-here, find-on}
 
 eqb-false : (a b : ℕ) → eqb a b ≡ false → a ≡ b → ⊥

@@ -4,7 +4,7 @@ use mathlib.Core.Path.{_≡_, refl, ap, _∙_}
 use mathlib.Core.Bool.{Bool, true, false}
 use mathlib.Core.List.{List}
 use lib.ListN.{length, set, length-set}
-use Rattle.lexer.specs.Lexed.{State, stored, passed, onShut, stepFrom, cutFrom, tokenFrom, shifted}
+use Rattle.lexer.specs.twins.Lexed.{State, stored, passed, onShut, stepFrom, cutFrom, tokenFrom, shifted}
 use Rattle.lexer.specs.declared.lexer.Token.{Token}
 use Rattle.lexer.proofs.LexedLaws.{length-entered}
 

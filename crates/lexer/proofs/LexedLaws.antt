@@ -8,12 +8,12 @@ use lib.Dec.{eqb}
 use lib.ListN.{length, set, length-set}
 use Rattle.language.specs.Words.{Word}
 use Rattle.language.specs.Tokens.{tag, kindOf, keyOf, fitOf}
-use Rattle.lexer.specs.Marks.{fitNumber, kindAt}
-use Rattle.lexer.specs.Cutting.{startAt, pieceEnd, partOf}
-use Rattle.lexer.specs.Judged.{textOf, hashOf}
+use Rattle.words.specs.twins.Marks.{fitNumber, kindAt}
+use Rattle.words.specs.twins.Cutting.{startAt, pieceEnd, partOf}
+use Rattle.words.specs.twins.Judged.{textOf, hashOf}
 use Rattle.lexer.specs.declared.lexer.Token.{Token}
 use Rattle.lexer.specs.declared.lexer.Cut.{Cut}
-use Rattle.lexer.specs.Lexed.{shifted, enteredIf, counted, numberAt, overAt, countOf, placeOf, tokenCells, placedToken, fittedToken, wordToken, pieceToken, tokenFrom, State, stored, passed, onShut, stepFrom, cutFrom, Out}
+use Rattle.lexer.specs.twins.Lexed.{shifted, enteredIf, counted, numberAt, overAt, countOf, placeOf, tokenCells, placedToken, fittedToken, wordToken, pieceToken, tokenFrom, State, stored, passed, onShut, stepFrom, cutFrom, Out}
 
 -- the token from what each call of the code answers
 module _ (job : Bool) (first text symbols : List ℕ) (found : ℕ) (names : List ℕ) (known i : ℕ) where

@@ -11,15 +11,15 @@ use lib.ListN.{length, take, drop, length-append}
 use Rattle.language.specs.Bytes.{txt}
 use Rattle.language.specs.Words.{Word, begins, Fit, fits, broken, long, many}
 use Rattle.language.specs.Tokens.{Piece, cut, Kind, symbol, ename, aname, evariable, avariable, plain, tag, sameKind, kindOf, keyOf, fitOf, place, isAmong, firsts, isSymbol, numOf, fitting, token, Token}
-use Rattle.lexer.specs.Marks.{fitNumber, markOf, cellOf, kindAt}
-use Rattle.lexer.specs.Cutting.{startAt, pieceEnd, partOf, wordAt}
-use Rattle.lexer.specs.Judged.{textOf, hashOf}
-use Rattle.lexer.specs.Table.{wordOn, wordIn, findAt}
+use Rattle.words.specs.twins.Marks.{fitNumber, markOf, cellOf, kindAt}
+use Rattle.words.specs.twins.Cutting.{startAt, pieceEnd, partOf, wordAt}
+use Rattle.words.specs.twins.Judged.{textOf, hashOf}
+use Rattle.lexer.specs.twins.Table.{wordOn, wordIn, findAt}
 use Rattle.lexer.specs.declared.lexer.Token.{Token as Cells}
-use Rattle.lexer.specs.Lexed.{markCell, numberAt, overAt, shutAt, countOf, placeOf, counted, shifted, enteredIf, tokenCells, State, stored, passed, shuts}
-use Rattle.lexer.proofs.Pieces.{number-known}
-use Rattle.lexer.proofs.Encoding.{kind-back}
-use Rattle.lexer.proofs.CutByIndex.{pieces-start, pieces-end, pieces-on, start-most, start-stops, end-most, end-there}
+use Rattle.lexer.specs.twins.Lexed.{markCell, numberAt, overAt, shutAt, countOf, placeOf, counted, shifted, enteredIf, tokenCells, State, stored, passed, shuts}
+use Rattle.words.proofs.Pieces.{number-known}
+use Rattle.words.proofs.Encoding.{kind-back}
+use Rattle.words.proofs.CutByIndex.{pieces-start, pieces-end, pieces-on, start-most, start-stops, end-most, end-there}
 use Rattle.lexer.proofs.LexedLaws.{nextIn, token-made, length-entered}
 use Rattle.lexer.proofs.TableMeaning.{Holds, find-place, holds-entered}
 use Rattle.lexer.proofs.TokenMeaning.{place-most, new-place, key-most, Placed, number-cell, over-same, mark-same}

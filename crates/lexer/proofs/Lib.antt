@@ -1,12 +1,5 @@
-pub mod Ranges
-pub mod Pieces
-pub mod CellLaws
-pub mod CuttingLaws
-pub mod WordLaws
 pub mod TableLaws
 pub mod LexedLaws
-pub mod Encoding
-pub mod CutByIndex
 pub mod TableMeaning
 pub mod TokenMeaning
 pub mod LexedStep

@@ -5,7 +5,7 @@ use mathlib.Core.Bool.{Bool, true, false, cond}
 use mathlib.Core.List.{List}
 use native.Mathlib.Omega.{arith}
 use Rattle.language.specs.Words.{Word}
-use Rattle.lexer.specs.Table.{entryIs, findAt}
+use Rattle.lexer.specs.twins.Table.{entryIs, findAt}
 
 module _ (first second table : List ℕ) (hash : ℕ) (w : Word) where
   pub find-none : {n : ℕ} (k : ℕ) → n ≤ 0 → findAt first second table hash w n k ≡ k

@@ -12,9 +12,9 @@ use lib.ListN.{length, take, drop, length-drop, getD, set, length-set, length-ap
 use lib.Seq.{take-all, drop-cons, getD-set-same, getD-set-other, getD-at}
 use Rattle.language.specs.Words.{Word, same, begins}
 use Rattle.language.specs.Tokens.{place}
-use Rattle.lexer.specs.Cutting.{pieceEnd, partOf, wordAt}
-use Rattle.lexer.specs.Judged.{hashOf}
-use Rattle.lexer.specs.Table.{wordIn, entryIs, findAt, entered}
+use Rattle.words.specs.twins.Cutting.{pieceEnd, partOf, wordAt}
+use Rattle.words.specs.twins.Judged.{hashOf}
+use Rattle.lexer.specs.twins.Table.{wordIn, entryIs, findAt, entered}
 
 pub same-word : (v w : Word) → same v w ≡ true → v ≡ w
 same-word [] [] e = refl

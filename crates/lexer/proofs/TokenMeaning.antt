@@ -12,10 +12,10 @@ use lib.ListN.{length, drop}
 use Rattle.language.specs.Bytes.{txt}
 use Rattle.language.specs.Words.{Word, same, Fit, fits, broken, long, many, value}
 use Rattle.language.specs.Tokens.{Kind, symbol, ename, aname, evariable, avariable, plain, tag, sameKind, kindOf, keyIn, keyOf, fixedWords, Text, ofProgram, ofJob, fitOf, place, isAmong, numOf, fitting, Piece, token, Token}
-use Rattle.lexer.specs.Marks.{fitNumber, overNumber, markOf, cellOf, kindAt}
-use Rattle.lexer.specs.Judged.{valueCell, textOf}
-use Rattle.lexer.specs.Lexed.{markSum, markCell, plainNumber, numberAt, overAt, shutAt, shuts}
-use Rattle.lexer.proofs.Encoding.{tag-most, fit-most}
+use Rattle.words.specs.twins.Marks.{fitNumber, overNumber, markOf, cellOf, kindAt}
+use Rattle.words.specs.twins.Judged.{valueCell, textOf}
+use Rattle.lexer.specs.twins.Lexed.{markSum, markCell, plainNumber, numberAt, overAt, shutAt, shuts}
+use Rattle.words.proofs.Encoding.{tag-most, fit-most}
 
 -- a place is at most the number of words
 pub place-most : (w : Word) (ws : List Word) → place w ws ≤ length ws

@@ -1,26 +1,26 @@
-// A text cut into tokens in storage (specs/Lexed.antt). It ends with the first token that no reader passes: the end of the text, a word
+// A text cut into tokens in storage (specs/twins/Lexed.antt). It ends with the first token that no reader passes: the end of the text, a word
 // that fits nowhere, or one too many.
-use crate::cells::put;
-use crate::cutting::part;
-use crate::cutting::piece_end;
-use crate::cutting::word_start;
-use crate::kinds::fit_of;
-use crate::kinds::hash_of;
-use crate::kinds::key_of;
-use crate::kinds::kind_of;
 use crate::table::enter;
 use crate::table::find;
 use crate::table::find_linked;
 use crate::table::link;
 use crate::table::link_all;
-use crate::words::value;
+use cells::cell::low;
+use cells::cell::put;
+use cells::part::part;
+use words::cutting::piece_end;
+use words::cutting::word_start;
+use words::fit::value;
+use words::kinds::fit_of;
+use words::kinds::hash_of;
+use words::kinds::key_of;
+use words::kinds::kind_of;
 ghost use mathlib.Core.Path.{_≡_};
 ghost use lib.ListN.{set};
 ghost use lib.Dec.{eqb};
-ghost use Prim.Native.Nat.{_%_};
 ghost use mathlib.Core.Bool.{_&&_, not};
-ghost use Rattle.lexer.specs.Chains.{Linked, linkedIf};
-ghost use Rattle.lexer.specs.Lexed.{markCell, numberAt, overAt, shutAt, countOf, placeOf, counted, enteredIf, shifted, tokenFrom, cutFrom, starting};
+ghost use Rattle.lexer.specs.twins.Chains.{Linked, linkedIf};
+ghost use Rattle.lexer.specs.twins.Lexed.{markCell, numberAt, overAt, shutAt, countOf, placeOf, counted, enteredIf, shifted, tokenFrom, cutFrom, starting};
 
 // A token in cells; whether it is a new symbol, or a new word that is none; and whether no reader passes it.
 pub struct Token {
@@ -47,12 +47,6 @@ pub struct Counts {
 pub struct Cut {
     pub tokens: usize,
     pub symbols: u16,
-}
-
-fn low(x: usize) -> u16
-    ensures { λ r. ⌜ r ≡ x % 65536 ⌝ }
-{
-    (x % 65536) as u16
 }
 
 fn mark_of(key: u16, kind: u16, fit: u16, over: bool) -> u16

@@ -1,18 +1,18 @@
 // A table of words by first standing: two cells an entry, the word's hash and its offset. Offsets from 32,769 on are those of a second
 // text, so that the symbols of a program and of its job stand in one table.
-use crate::cells::cell;
-use crate::cells::put;
-use crate::cutting::part;
-use crate::cutting::piece_end;
-use crate::words::begins;
-use crate::words::same;
+use cells::cell::cell;
+use cells::cell::put;
+use cells::part::part;
+use words::cutting::piece_end;
+use words::fit::begins;
+use words::fit::same;
 ghost use mathlib.Core.Path.{_≡_};
 ghost use lib.ListN.{set};
 ghost use Prim.Native.Nat.{_+_, _*_, _%_};
 ghost use Rattle.language.specs.Words.{same as sameWord};
-ghost use Rattle.lexer.specs.Cutting.{wordAt};
-ghost use Rattle.lexer.specs.Chains.{Chained, linked, linkedAll};
-ghost use Rattle.lexer.specs.Table.{wordIn, entryIs, findAt, entered};
+ghost use Rattle.words.specs.twins.Cutting.{wordAt};
+ghost use Rattle.lexer.specs.twins.Chains.{Chained, linked, linkedAll};
+ghost use Rattle.lexer.specs.twins.Table.{wordIn, entryIs, findAt, entered};
 
 // The word that begins at `i`.
 pub fn word_at(text: &[u8], i: usize) -> &[u8]
@@ -48,8 +48,8 @@ fn entry_is(first: &[u8], second: &[u8], table: &[u16], k: u16, hash: u16, word:
     ensures { λ r. ⌜ r ≡ entryIs (now (first .entry)) (now (second .entry)) (now (table .entry)) hash (now (word .entry)) k ⌝ }
 {
     let place = 2 * (k as usize);
-    if cell(table, place, 0) == hash {
-        return stands(first, second, cell(table, place + 1, 0), word);
+    if cell(table, place) == hash {
+        return stands(first, second, cell(table, place + 1), word);
     }
     false
 }
@@ -98,10 +98,10 @@ pub(crate) fn find_linked(
     ensures { λ r. ⌜ r ≡ findAt (now (first .entry)) (now (second .entry)) (now (table .entry)) hash (now (word .entry)) count 0 ⌝ }
 {
     let mut found = count;
-    let mut k = cell(chains, base as usize + bucket(hash), 0);
+    let mut k = cell(chains, base as usize + bucket(hash));
     while 0 < k {
         let e = k - 1;
-        let next = cell(chains, base as usize + 256 + e as usize, 0);
+        let next = cell(chains, base as usize + 256 + e as usize);
         if entry_is(first, second, table, e, hash, word) {
             found = e;
             k = next;
@@ -116,8 +116,8 @@ pub(crate) fn find_linked(
 pub(crate) fn link(table: &[u16], k: u16, base: u16, chains: &mut [u16])
     ensures { λ _. ⌜ now (chains .exit) ≡ linked base (now (table .entry)) k (now (chains .entry)) ⌝ }
 {
-    let b = bucket(cell(table, 2 * (k as usize), 0));
-    let before = cell(chains, base as usize + b, 0);
+    let b = bucket(cell(table, 2 * (k as usize)));
+    let before = cell(chains, base as usize + b);
     put(chains, base as usize + 256 + k as usize, before);
     put(chains, base as usize + b, ((k as usize + 1) % 65536) as u16);
 }

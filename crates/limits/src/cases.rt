@@ -2,26 +2,6 @@
 ghost use Prim.Native.Nat.{_≤_};
 ghost use lib.ListN.{length};
 
-// The byte at a place, and 0 past the end.
-pub fn byte(text: &[u8], at: usize) -> u8 {
-    if at < text.len() { text[at] } else { 0 }
-}
-
-fn least(a: usize, b: usize) -> usize
-    ensures { λ r. ⌜ (r ≤ a) × (r ≤ b) ⌝ }
-{
-    if a < b { a } else { b }
-}
-
-// The bytes from one place up to another; there are none past the text's end.
-pub fn part(text: &[u8], from: usize, to: usize) -> &[u8] {
-    let end = least(to, text.len());
-    if end < from {
-        return &text[..0];
-    }
-    &text[from..end]
-}
-
 // The first place from `from` on where the byte stands, or the text's length.
 pub fn find(text: &[u8], from: usize, b: u8) -> usize
     requires { ⌜ from ≤ length (now text) ⌝ }

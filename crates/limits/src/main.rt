@@ -29,7 +29,7 @@ mod storage;
 
 use cases::find;
 use cases::line_from;
-use cases::part;
+use cells::part::part;
 use libc::STDIN_FILENO;
 use notation::expand;
 use notation::numeral;

@@ -1,7 +1,7 @@
 // From the notation of a case (main.rt) to the bytes of a text.
-use crate::cases::byte;
 use crate::cases::find;
-use crate::cases::part;
+use cells::cell::byte;
+use cells::part::part;
 ghost use Prim.Native.Nat.{_≤_, _<_};
 ghost use lib.ListN.{length};
 

@@ -21,7 +21,7 @@ use Rattle.semantics.specs.Configuration.{ExpEnv, substOfEnv, nodesState, Confi
 use Rattle.semantics.specs.Tree.{Node, meetingAt}
 use Rattle.semantics.specs.Walk.{meetingOver, Limits, stop21, stop22, stop23, WalkState, Walked, going, stopped, tableFull, withLine, atEnd}
 use Rattle.semantics.proofs.Scopes.{Covers, WellScoped}
-use Rattle.heap.specs.Entries.{entry, entryKnown, entryFrom, entryTo, pushed}
+use Rattle.heap.specs.twins.Entries.{entry, entryKnown, entryFrom, entryTo, pushed}
 use Rattle.heap.specs.declared.configuration.Configuration.{Configuration as InCells}
 use Rattle.runs.proofs.RunLaws.{Below}
 use Rattle.heap.proofs.HeapLaws.{Holds, nodes-positive}
@@ -30,19 +30,19 @@ use Rattle.heap.proofs.KnownLaws.{KnownOf}
 use Rattle.heap.proofs.FrameLaws as frame
 use Rattle.heap.proofs.PartLaws.{held-joined}
 use Rattle.heap.proofs.NodeLaws.{holds-nodes}
-use Rattle.linking.specs.Linked.{ExpLinked, TermLinked, resultLinked}
-use Rattle.linking.specs.Places.{envOf}
+use Rattle.linking.specs.twins.Linked.{ExpLinked, TermLinked, resultLinked}
+use Rattle.linking.specs.twins.Places.{envOf}
 use Rattle.saving.specs.declared.head.Node.{Node as Saved}
 use Rattle.constants.proofs.ConstantLaws.{Constants}
-use Rattle.values.specs.Names.{namesFrom}
-use Rattle.values.specs.Values.{ValueLeft, valueAt}
+use Rattle.values.specs.twins.Names.{namesFrom}
+use Rattle.values.specs.twins.Values.{ValueLeft, valueAt}
 use Rattle.values.specs.declared.value.Valued.the-variants.{At, Over as ValuedOver}
 use Rattle.values.proofs.ValueLaws.{Known, ValuedAs}
 use Rattle.values.proofs.RoomLaws.{value-outcome}
 use Rattle.values.proofs.RoomLaws as values
 use Rattle.values.proofs.StateLaws.{HoldsPair, Stands, known-in-scope}
 use Rattle.values.proofs.PairLaws.{ends, ends-length, ends-held, values-held, base-is, entries-are, entries-few}
-use Rattle.meetings.specs.Unifying.{MetLeft, metLeft, unified}
+use Rattle.meetings.specs.twins.Unifying.{MetLeft, metLeft, unified}
 use Rattle.meetings.specs.declared.class.Class.{Class}
 use Rattle.meetings.specs.declared.class.Met.{Met}
 use Rattle.meetings.specs.declared.class.Met.the-variants.{Common, Apart, Over as MetOver}
@@ -50,9 +50,9 @@ use Rattle.meetings.proofs.ClassLaws.{over, reached, MeetingHeld, class-over}
 use Rattle.meetings.proofs.BindingLaws.{Roomy, Kept}
 use Rattle.meetings.proofs.UnifierLaws.{Answered, Meets, unify-means}
 use Rattle.lines.specs.LineCells.{answerRoom}
-use Rattle.meetings.specs.LineCells.{linePut}
-use Rattle.lines.specs.Lines.{nodesInLine, AddLeft, addLeft, oneMore, lineAdded}
-use Rattle.lines.specs.Ends.{classAt, valueMet, outputMet, endedAs, EndLeft, afterMeeting, metEnd}
+use Rattle.meetings.specs.twins.LineCells.{linePut}
+use Rattle.lines.specs.twins.Lines.{nodesInLine, AddLeft, addLeft, oneMore, lineAdded}
+use Rattle.lines.specs.twins.Ends.{classAt, valueMet, outputMet, endedAs, EndLeft, afterMeeting, metEnd}
 use Rattle.lines.specs.declared.line.Lines.{Lines}
 use Rattle.lines.specs.declared.line.Added.the-variants.{Going as AddedGoing, Full as AddedFull}
 use Rattle.lines.specs.declared.end.Ended.{Ended}

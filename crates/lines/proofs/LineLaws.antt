@@ -10,16 +10,16 @@ use Rattle.expressions.specs.Class.{IOClass, nodesClass}
 use Rattle.expressions.specs.Contraction.{CRPair}
 use Rattle.expressions.specs.Intersection.{meeting}
 use Rattle.semantics.specs.Tree.{Line}
-use Rattle.heap.specs.Entries.{nodesFrom}
+use Rattle.heap.specs.twins.Entries.{nodesFrom}
 use Rattle.heap.proofs.FrameLaws.{Held}
 use Rattle.heap.proofs.NodeLaws.{held-nodes}
 use Rattle.heap.proofs.PartLaws.{held-first, nodes-joined}
-use Rattle.meetings.specs.LineCells.{LineAnswer, lineAnswer, linePut}
+use Rattle.meetings.specs.twins.LineCells.{LineAnswer, lineAnswer, linePut}
 use Rattle.meetings.specs.declared.class.Class.{Class}
 use Rattle.meetings.proofs.ClassLaws.{MeetingHeld, reached, few as meeting-few}
 use Rattle.meetings.proofs.LineLaws.{class-length, line-means}
 use Rattle.lines.specs.LineCells.{lineCells, linesCells, nodesLines, answerRoom}
-use Rattle.lines.specs.Lines.{nodesInLine, linesMore, oneMore}
+use Rattle.lines.specs.twins.Lines.{nodesInLine, linesMore, oneMore}
 use Rattle.lines.specs.declared.line.Lines.{Lines}
 
 -- n zeros

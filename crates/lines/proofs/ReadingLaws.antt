@@ -12,7 +12,7 @@ use Rattle.expressions.specs.Class.{IOClass}
 use Rattle.sets.specs.Cells.{evarCode, atomicCode, cells, cellsAll, restrictionCells}
 use Rattle.sets.proofs.CellLaws.{atomic-not-pair, cells-nodes, cellsAll-nodes, restrictionCells-nodes}
 use Rattle.semantics.specs.Tree.{Line}
-use Rattle.meetings.specs.LineCells.{classCells}
+use Rattle.meetings.specs.ClassCells.{classCells}
 use Rattle.meetings.proofs.LineLaws.{class-length}
 use Rattle.lines.specs.LineCells.{lineCells, linesCells}
 use Rattle.lines.specs.LineReading.{atomicAt, TreeRead, treeRead, readTree, readTrees, readNeqs, readClass, readLine, pastLine, readLines}

@@ -1,4 +1,3 @@
 pub mod LineCells
 pub mod LineReading
-pub mod Lines
-pub mod Ends
+pub mod twins

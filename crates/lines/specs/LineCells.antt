@@ -3,7 +3,7 @@ use Prim.Native.Nat.{ℕ, _+_}
 use mathlib.Core.List.{List, [], _∷_, _++_}
 use Rattle.expressions.specs.Class.{nodesClass}
 use Rattle.semantics.specs.Tree.{Line}
-use Rattle.meetings.specs.LineCells.{lineCells as cellsOf}
+use Rattle.meetings.specs.ClassCells.{lineCells as cellsOf}
 
 -- of each line its steps, how many cells its inputs have, how many its output, how many non-equalities it has; then these cells and the sides
 abbrev pub lineCells : Line → List ℕ

@@ -12,8 +12,8 @@ use values::names::names_from;
 use values::value::Valued;
 use values::value::value;
 ghost use mathlib.Core.Path.{_≡_};
-ghost use Rattle.meetings.specs.Unifying.{metLeft};
-ghost use Rattle.lines.specs.Ends.{classAt, outputMet, endedAs, endLeft, metEnd};
+ghost use Rattle.meetings.specs.twins.Unifying.{metLeft};
+ghost use Rattle.lines.specs.twins.Ends.{classAt, outputMet, endedAs, endLeft, metEnd};
 
 // Going: the lines there are then. Over: 21. Full: 22.
 pub enum Ended {

@@ -1,10 +1,10 @@
 // The lines that a walk has found, in the answer storage one behind the other.
+use cells::cell;
 use heap::entry;
 use meetings::class::Class;
 use meetings::line::put_line;
-use sets::cell;
 ghost use mathlib.Core.Path.{_≡_};
-ghost use Rattle.lines.specs.Lines.{nodesInLine, linesMore, addLeft, lineAdded};
+ghost use Rattle.lines.specs.twins.Lines.{nodesInLine, linesMore, addLeft, lineAdded};
 
 // How many lines there are, their nodes, and the cells of the answer storage that they take.
 pub struct Lines {

@@ -11,21 +11,21 @@ use lib.Seq.{getD-set-same, getD-set-other}
 use borrow.Author.Tests.{eqb-true, lt-ltb, lt-leb}
 use Rattle.language.specs.Tokens.{Token, tag}
 use Rattle.language.specs.Source.{SDef, SProg, defs, functions, progOf, prog}
-use Rattle.grammar.specs.Stored as stored
-use Rattle.lexer.specs.Marks.{cellOf}
-use Rattle.lexer.specs.Lexed.{State}
-use Rattle.checker.specs.StoredAt.{keyAt, numAt}
-use Rattle.checker.specs.CheckAt.{noDefs}
-use Rattle.checker.specs.CheckStored.{defsAt}
+use Rattle.grammar.specs.twins.Stored as stored
+use Rattle.words.specs.twins.Marks.{cellOf}
+use Rattle.lexer.specs.twins.Lexed.{State}
+use Rattle.checker.specs.twins.StoredAt.{keyAt, numAt}
+use Rattle.checker.specs.twins.CheckAt.{noDefs}
+use Rattle.checker.specs.twins.CheckStored.{defsAt}
 use Rattle.checker.specs.declared.check.Defs.{Defs}
-use Rattle.syntax.specs.Ends.{opens, closes, closeFrom, pastAt, endsFrom}
-use Rattle.syntax.specs.Heads.{headsFrom}
-use Rattle.syntax.specs.Standing.{DefAt, defineAt, DefsFrom, noneFrom, moreFrom}
+use Rattle.syntax.specs.twins.Ends.{opens, closes, closeFrom, pastAt, endsFrom}
+use Rattle.syntax.specs.twins.Heads.{headsFrom}
+use Rattle.syntax.specs.twins.Standing.{DefAt, defineAt, DefsFrom, noneFrom, moreFrom}
 use Rattle.syntax.proofs.StoredCheck.{key-of, num-of, stored-order, stored-count, stored-few}
 use Rattle.syntax.proofs.EndsLaws.{ends-at}
 use Rattle.syntax.proofs.ProgramRead.{ProgramStored}
-use Rattle.linking.specs.Linking.{programLinked}
-use Rattle.linking.specs.Linked.{ProgramLinked}
+use Rattle.linking.specs.twins.Linking.{programLinked}
+use Rattle.linking.specs.twins.Linked.{ProgramLinked}
 use Rattle.linking.proofs.TokenLaws.{TokensIn}
 use Rattle.linking.proofs.ProgramLaws.{bodiesOf, program-linked, program-kept}
 

@@ -6,8 +6,8 @@ use native.Mathlib.Omega.{arith}
 use lib.ListN.{length}
 use Rattle.expressions.specs.Expression.{Exp}
 use Rattle.language.specs.Program.{Term, Param, Prog}
-use Rattle.linking.specs.Code.{linkAt}
-use Rattle.linking.specs.Linked.{ExpLinked, symLinked, eLinked, aLinked, consLinked, ExpsLinked, noneLinked, moreLinked, TermLinked, callLinked, sameLinked, testLinked, resultLinked}
+use Rattle.linking.specs.twins.Code.{linkAt}
+use Rattle.linking.specs.twins.Linked.{ExpLinked, symLinked, eLinked, aLinked, consLinked, ExpsLinked, noneLinked, moreLinked, TermLinked, callLinked, sameLinked, testLinked, resultLinked}
 use Rattle.linking.proofs.CodeLaws.{Agree, Wrote}
 
 agree-less : {a b c d : ℕ} {code g : List ℕ} → a ≤ c → d ≤ b → Agree a b code g → Agree c d code g

@@ -9,8 +9,8 @@ use lib.ListN.{length, getD, set, length-set}
 use lib.Seq.{getD-set-same, getD-set-other}
 use borrow.Author.Tests.{lt-ltb, ltb-true, ltb-false}
 use Rattle.linking.specs.declared.code.Link.{Link}
-use Rattle.linking.specs.Code.{link, linkAt, withLink}
-use Rattle.linking.specs.Linking.{tokenLink, rangeLinked}
+use Rattle.linking.specs.twins.Code.{link, linkAt, withLink}
+use Rattle.linking.specs.twins.Linking.{tokenLink, rangeLinked}
 
 -- code and g agree on the tokens from a up to b
 pub record Agree (a b : ℕ) (code g : List ℕ) : Type 0 where

@@ -13,15 +13,15 @@ use Rattle.language.specs.Tokens.{ofProgram, Token}
 use Rattle.language.specs.Tokens as tokens
 use Rattle.language.specs.Program.{Param, pe, pa}
 use Rattle.language.specs.Source.{SExp, exp, exps}
-use Rattle.syntax.specs.Standing.{WordAt, ExpAt, symbolAt, consAt, ExpsAt}
-use Rattle.syntax.specs.Standing as at
-use Rattle.syntax.specs.Ends.{pastAt}
+use Rattle.syntax.specs.twins.Standing.{WordAt, ExpAt, symbolAt, consAt, ExpsAt}
+use Rattle.syntax.specs.twins.Standing as at
+use Rattle.syntax.specs.twins.Ends.{pastAt}
 use Rattle.syntax.proofs.EndsLaws.{exp-end}
 use Rattle.syntax.proofs.Placed.{exp-placed}
 use Rattle.syntax.proofs.CheckLaws.{exp-least, exp-most}
-use Rattle.linking.specs.Code.{link, linkAt}
-use Rattle.linking.specs.Linking.{placeOf}
-use Rattle.linking.specs.Linked.{placeIn, ExpLinked, symLinked, eLinked, aLinked, consLinked, ExpsLinked, noneLinked, moreLinked}
+use Rattle.linking.specs.twins.Code.{link, linkAt}
+use Rattle.linking.specs.twins.Linking.{placeOf}
+use Rattle.linking.specs.twins.Linked.{placeIn, ExpLinked, symLinked, eLinked, aLinked, consLinked, ExpsLinked, noneLinked, moreLinked}
 use Rattle.linking.proofs.TokenLaws.{TokensIn, IsName, eName, aName, linkOf, past-one, word-link, cons-link, symbol-link, ename-link, aname-link}
 use Rattle.linking.proofs.NameLaws.{Names, place-most, place-is}
 

@@ -7,8 +7,8 @@ use native.Mathlib.Omega.{arith}
 use lib.Dec.{eqb}
 use lib.ListN.{length, getD}
 use Rattle.linking.specs.declared.code.Link.{Link}
-use Rattle.linking.specs.Code.{withLink}
-use Rattle.linking.specs.Linking.{on, ifLink, trueNames, falseNames, linked, keyOf, sameName, placeFrom, headFrom, closingFrom, tokenLink, rangeLinked, LinksLeft, linksLeft, boundLink, parametersLinked, Linked, range, called, conditional, formOf, termLinked, ifLinked, definitionLinked, definitionsLinked}
+use Rattle.linking.specs.twins.Code.{withLink}
+use Rattle.linking.specs.twins.Linking.{on, ifLink, trueNames, falseNames, linked, keyOf, sameName, placeFrom, headFrom, closingFrom, tokenLink, rangeLinked, LinksLeft, linksLeft, boundLink, parametersLinked, Linked, range, called, conditional, formOf, termLinked, ifLinked, definitionLinked, definitionsLinked}
 
 -- from j up to the end
 pub none-left : (c j : ℕ) → c ≤ j → c - j ≡ 0

@@ -10,8 +10,8 @@ use lib.Seq.{getD-set-same, getD-set-other}
 use borrow.Author.Tests.{lt-ltb, le-ltb, ltb-true, ltb-false}
 use Rattle.language.specs.Tokens.{Token}
 use Rattle.language.specs.Program.{Param, sameParam}
-use Rattle.linking.specs.Linking.{NamesLeft, namesLeft, placeFrom, placeOf, bound, boundName}
-use Rattle.linking.specs.Linked.{placeIn, withName}
+use Rattle.linking.specs.twins.Linking.{NamesLeft, namesLeft, placeFrom, placeOf, bound, boundName}
+use Rattle.linking.specs.twins.Linked.{placeIn, withName}
 use Rattle.linking.proofs.TokenLaws.{TokensIn, IsName, NamesAre, noNames, moreNames, place-found}
 
 -- the first `used` names are sc, and there is room for m more

@@ -14,8 +14,8 @@ use Rattle.language.specs.WellFormed.{fits, hasParam, distinctParams}
 use Rattle.semantics.specs.Environment.{Env, lookup, update, updateE, updateA, addE, addA, bindParams}
 use Rattle.semantics.specs.Configuration.{ExpEnv}
 use Rattle.expressions.proofs.Tests.{eqb-same, and-both}
-use Rattle.linking.specs.Linked.{placeIn, withName, reach}
-use Rattle.linking.specs.Places.{envOf, withValue}
+use Rattle.linking.specs.twins.Linked.{placeIn, withName, reach}
+use Rattle.linking.specs.twins.Places.{envOf, withValue}
 
 -- the value at a place
 pub lookup-e : (d : Exp) (x : ℕ) (sc : List Param) (vs : List Exp) → length vs ≡ length sc → lookup d x (envOf sc vs .evars) ≡ getD vs (placeIn (pe x) sc) d

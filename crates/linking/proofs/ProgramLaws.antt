@@ -9,12 +9,12 @@ use lib.ListN.{length, getD, replicate, length-replicate}
 use Rattle.language.specs.Tokens.{Token}
 use Rattle.language.specs.Program.{Term, Param, pe, pa, Prog, find}
 use Rattle.language.specs.Source.{SParam, SDef, params, term, functions, progOf, placeOf}
-use Rattle.syntax.specs.Standing.{WordAt, ParamsAt, DefAt, defineAt, DefsFrom, noneFrom, moreFrom}
-use Rattle.syntax.specs.Standing as at
+use Rattle.syntax.specs.twins.Standing.{WordAt, ParamsAt, DefAt, defineAt, DefsFrom, noneFrom, moreFrom}
+use Rattle.syntax.specs.twins.Standing as at
 use Rattle.syntax.proofs.ProgramLaws.{term-bounds}
-use Rattle.linking.specs.Code.{link, linkAt, withLink}
-use Rattle.linking.specs.Linking.{on, keyOf, Linked, linked, LinksLeft, headFrom, headOf, closingFrom, closingAt, boundLink, parametersLinked, termLinked, definitionLinked, definitionsLinked, programLinked}
-use Rattle.linking.specs.Linked.{withName, reach, TermLinked, BodiesLinked, noBodies, moreBodies, ProgramLinked}
+use Rattle.linking.specs.twins.Code.{link, linkAt, withLink}
+use Rattle.linking.specs.twins.Linking.{on, keyOf, Linked, linked, LinksLeft, headFrom, headOf, closingFrom, closingAt, boundLink, parametersLinked, termLinked, definitionLinked, definitionsLinked, programLinked}
+use Rattle.linking.specs.twins.Linked.{withName, reach, TermLinked, BodiesLinked, noBodies, moreBodies, ProgramLinked}
 use Rattle.linking.proofs.CodeLaws.{Agree, Wrote, wrote-none, wider, wrote-then}
 use Rattle.linking.proofs.AgreeLaws.{before-agrees, term-goes-on, term-agrees}
 use Rattle.linking.proofs.TokenLaws.{TokensIn, IsName, eName, aName, NamesAre, noNames, moreNames, word-key}

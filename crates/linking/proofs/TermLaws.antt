@@ -9,15 +9,15 @@ use lib.ListN.{length, getD, length-append}
 use Rattle.language.specs.Tokens.{ename, aname, ofProgram, Token}
 use Rattle.language.specs.Program.{eqa, consp, Term, conditional, Param, pe, pa, Prog}
 use Rattle.language.specs.Source.{SExp, STerm, exp, term}
-use Rattle.syntax.specs.Standing.{WordAt, NameAt, ExpAt, ConditionAt, eqaAt, conspAt, TermAt, callAt, ifAt, resultAt}
+use Rattle.syntax.specs.twins.Standing.{WordAt, NameAt, ExpAt, ConditionAt, eqaAt, conspAt, TermAt, callAt, ifAt, resultAt}
 use Rattle.syntax.proofs.EndsLaws.{exp-end, condition-end, term-end}
 use Rattle.syntax.proofs.Placed.{exp-placed, condition-placed, term-placed}
 use Rattle.syntax.proofs.CheckLaws.{exp-least}
 use Rattle.syntax.proofs.ProgramLaws.{term-bounds}
 use Rattle.linking.specs.declared.code.Link.{Link}
-use Rattle.linking.specs.Code.{link, linkAt, withLink}
-use Rattle.linking.specs.Linking.{on, keyOf, Linked, linked, LinksLeft, formOf, ifLink, boundLink, trueNames, falseNames, rangeLinked, termLinked}
-use Rattle.linking.specs.Linked.{placeIn, withName, TermLinked, sameLinked, testLinked}
+use Rattle.linking.specs.twins.Code.{link, linkAt, withLink}
+use Rattle.linking.specs.twins.Linking.{on, keyOf, Linked, linked, LinksLeft, formOf, ifLink, boundLink, trueNames, falseNames, rangeLinked, termLinked}
+use Rattle.linking.specs.twins.Linked.{placeIn, withName, TermLinked, sameLinked, testLinked}
 use Rattle.linking.proofs.CodeLaws.{Agree, Wrote, with-long, with-same, with-other, with-wrote, wider, wrote-then, range-wrote, range-at}
 use Rattle.linking.proofs.AgreeLaws.{before-agrees, behind-agrees, exp-agrees, exp-goes-on, term-goes-on, term-agrees}
 use Rattle.linking.proofs.TokenLaws.{TokensIn, IsName, eName, aName, NamesAre, noNames, moreNames, linkOf, word-key}

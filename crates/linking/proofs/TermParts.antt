@@ -14,15 +14,15 @@ use Rattle.language.specs.Tokens as tokens
 use Rattle.language.specs.Reader.{is}
 use Rattle.language.specs.Program.{Term, call, result, Param, pe, pa, Prog, find}
 use Rattle.language.specs.Source.{SExp, exp, exps, placeOf}
-use Rattle.syntax.specs.Standing.{WordAt, NameAt, ExpAt, symbolAt, consAt, ExpsAt, TermAt, callAt, resultAt}
-use Rattle.syntax.specs.Standing as at
+use Rattle.syntax.specs.twins.Standing.{WordAt, NameAt, ExpAt, symbolAt, consAt, ExpsAt, TermAt, callAt, resultAt}
+use Rattle.syntax.specs.twins.Standing as at
 use Rattle.syntax.proofs.EndsLaws.{exp-end, term-end}
 use Rattle.syntax.proofs.Placed.{exp-placed, term-placed}
 use Rattle.syntax.proofs.CheckLaws.{exp-least, exp-most}
 use Rattle.linking.specs.declared.code.Link.{Link}
-use Rattle.linking.specs.Code.{link, linkAt, withLink}
-use Rattle.linking.specs.Linking.{on, keyOf, Linked, linked, LinksLeft, headOf, closingAt, formOf, callLink, boundName, boundLink, tokenLink, rangeLinked, range, called, termLinked}
-use Rattle.linking.specs.Linked.{placeIn, withName, ExpLinked, ExpsLinked, TermLinked, callLinked, resultLinked}
+use Rattle.linking.specs.twins.Code.{link, linkAt, withLink}
+use Rattle.linking.specs.twins.Linking.{on, keyOf, Linked, linked, LinksLeft, headOf, closingAt, formOf, callLink, boundName, boundLink, tokenLink, rangeLinked, range, called, termLinked}
+use Rattle.linking.specs.twins.Linked.{placeIn, withName, ExpLinked, ExpsLinked, TermLinked, callLinked, resultLinked}
 use Rattle.linking.proofs.CodeLaws.{Agree, Wrote, with-long, with-same, with-other, with-wrote, wrote-none, wider, wrote-then, range-wrote, range-at}
 use Rattle.linking.proofs.TokenLaws.{TokensIn, IsName, eName, aName, NamesAre, noNames, moreNames, linkOf, word-key}
 use Rattle.linking.proofs.NameLaws.{Names, names-less, names-kept, place-most, BoundTo, bound-to}

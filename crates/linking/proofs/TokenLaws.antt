@@ -13,13 +13,13 @@ use Rattle.language.specs.Tokens.{Kind, symbol, ename, aname, plain, tag, Token
 use Rattle.language.specs.Tokens as tokens
 use Rattle.language.specs.Reader.{is, isA}
 use Rattle.language.specs.Program.{Param, pe, pa, sameParam}
-use Rattle.syntax.specs.Standing.{WordAt, NameAt}
-use Rattle.syntax.specs.Ends.{pastAt}
+use Rattle.syntax.specs.twins.Standing.{WordAt, NameAt}
+use Rattle.syntax.specs.twins.Ends.{pastAt}
 use Rattle.syntax.proofs.EndsLaws.{Unbracketed}
 use Rattle.linking.specs.declared.code.Link.{Link}
-use Rattle.linking.specs.Code.{link}
-use Rattle.linking.specs.Linking.{keyOf, kindOf, sameName, placeFrom, placeOf, tokenLink}
-use Rattle.linking.specs.Linked.{placeIn}
+use Rattle.linking.specs.twins.Code.{link}
+use Rattle.linking.specs.twins.Linking.{keyOf, kindOf, sameName, placeFrom, placeOf, tokenLink}
+use Rattle.linking.specs.twins.Linked.{placeIn}
 
 -- `tok`, n of them, stand in the cells, with the index past what starts at each
 pub record TokensIn (tok : ℕ → Token) (n : ℕ) (marks nums ends : List ℕ) : Type 0 where

@@ -1,4 +1,1 @@
-pub mod Code
-pub mod Linking
-pub mod Linked
-pub mod Places
+pub mod twins

@@ -11,7 +11,7 @@
 // A name's place is counted from the first name in reach: the parameters in order, then what each `cons?` on the way binds. A name bound again
 // has the place that it had.
 ghost use mathlib.Core.Path.{_≡_};
-ghost use Rattle.linking.specs.Code.{linkAt, withLink};
+ghost use Rattle.linking.specs.twins.Code.{linkAt, withLink};
 
 pub const NOTHING: u16 = 0;
 

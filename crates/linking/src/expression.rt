@@ -7,17 +7,17 @@ use crate::code::set_link;
 use crate::names::place_of;
 use crate::tokens::key;
 use crate::tokens::kind;
-use crate::tokens::narrow;
-use lexer::keys::ANAME;
-use lexer::keys::CONS;
-use lexer::keys::ENAME;
-use lexer::keys::SYMBOL;
-use sets::cell;
+use cells::cell;
 use sets::contraction;
+use sets::tree;
+use words::keys::ANAME;
+use words::keys::CONS;
+use words::keys::ENAME;
+use words::keys::SYMBOL;
 ghost use mathlib.Core.Path.{_≡_};
 ghost use Prim.Native.Nat.{_-_};
-ghost use Rattle.linking.specs.Code.{link};
-ghost use Rattle.linking.specs.Linking.{tokenLink, rangeLinked};
+ghost use Rattle.linking.specs.twins.Code.{link};
+ghost use Rattle.linking.specs.twins.Linking.{tokenLink, rangeLinked};
 
 fn link_of(mark: u16, first: u16, past: u16) -> Link
     ensures { λ r. ⌜ r ≡ link mark first 0 past ⌝ }
@@ -43,17 +43,17 @@ fn token_link(
 {
     let past = cell::cell(ends, i);
     if key(marks, i) == CONS {
-        return link_of(CELL, cell::PAIR, past);
+        return link_of(CELL, tree::PAIR, past);
     }
     let tag = kind(marks, i);
     if tag == SYMBOL {
         return link_of(CELL, contraction::code(cell::cell(nums, i), 1), past);
     }
     if tag == ENAME {
-        return link_of(NAME, narrow(place_of(marks, nums, names, used, i)), past);
+        return link_of(NAME, cell::low(place_of(marks, nums, names, used, i)), past);
     }
     if tag == ANAME {
-        return link_of(NAME, narrow(place_of(marks, nums, names, used, i)), past);
+        return link_of(NAME, cell::low(place_of(marks, nums, names, used, i)), past);
     }
     link_of(NOTHING, 0, past)
 }

@@ -2,12 +2,11 @@
 use crate::code::Link;
 use crate::code::NAME;
 use crate::code::set_link;
-use crate::tokens::narrow;
 use crate::tokens::on;
 use crate::tokens::same_name;
-use sets::cell;
+use cells::cell;
 ghost use mathlib.Core.Path.{_≡_};
-ghost use Rattle.linking.specs.Linking.{placeOf, NamesLeft, namesLeft, boundName, linksLeft, boundLink};
+ghost use Rattle.linking.specs.twins.Linking.{placeOf, NamesLeft, namesLeft, boundName, linksLeft, boundLink};
 
 // The place of a name, and how many are in reach then.
 struct Bound {
@@ -74,9 +73,9 @@ pub(crate) fn link_name(
     let b = bind(marks, nums, names, used, i);
     let l = Link {
         mark: NAME,
-        first: narrow(b.place),
+        first: cell::low(b.place),
         second: 0,
-        past: narrow(on(i, 1)),
+        past: cell::low(on(i, 1)),
     };
     set_link(code, i, l);
     b.used

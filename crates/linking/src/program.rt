@@ -4,11 +4,10 @@ use crate::terms::Reach;
 use crate::terms::closing;
 use crate::terms::link_term;
 use crate::tokens::on;
-use crate::tokens::wide;
-use sets::cell;
+use cells::cell;
 ghost use mathlib.Core.Path.{_≡_};
 ghost use Prim.Native.Nat.{_-_};
-ghost use Rattle.linking.specs.Linking.{linksLeft, linked, parametersLinked, definitionLinked, programLinked, programEnd};
+ghost use Rattle.linking.specs.twins.Linking.{linksLeft, linked, parametersLinked, definitionLinked, programLinked, programEnd};
 
 // The parameters from p up to `to`, in order: how many are in reach then.
 fn link_parameters(
@@ -78,7 +77,7 @@ pub fn link_program(
     let n = cell::least(count, 64);
     let mut j: usize = 0;
     while j < n {
-        let h = wide(heads[j]);
+        let h = cell::wide(heads[j]);
         link_definition(marks, nums, ends, heads, count, &mut names, code, h);
         j += 1;
     }
@@ -88,6 +87,6 @@ pub fn link_program(
 pub fn program_end(ends: &[u16], heads: &[u16; 64], count: usize) -> usize
     ensures { λ r. ⌜ r ≡ programEnd (now (ends .entry)) (now (heads .entry)) count ⌝ }
 {
-    let name = wide(cell::cell(heads, cell::less(count, 1)));
-    wide(cell::cell(ends, cell::less(name, 2)))
+    let name = cell::wide(cell::cell(heads, cell::less(count, 1)));
+    cell::wide(cell::cell(ends, cell::less(name, 2)))
 }

@@ -7,14 +7,12 @@ use crate::code::set_link;
 use crate::expression::link_range;
 use crate::names::link_name;
 use crate::tokens::key;
-use crate::tokens::narrow;
 use crate::tokens::on;
 use crate::tokens::past;
-use crate::tokens::wide;
-use lexer::keys;
-use sets::cell;
+use cells::cell;
+use words::keys;
 ghost use mathlib.Core.Path.{_≡_};
-ghost use Rattle.linking.specs.Linking.{formOf, headOf, closingAt, callLink, ifLink, linksLeft, trueNames, falseNames, linked, ifLinked, termLinked};
+ghost use Rattle.linking.specs.twins.Linking.{formOf, headOf, closingAt, callLink, ifLink, linksLeft, trueNames, falseNames, linked, ifLinked, termLinked};
 
 // How many more brackets may be opened, and how many names are in reach.
 pub(crate) struct Reach {
@@ -39,7 +37,7 @@ fn head_of(nums: &[u16], heads: &[u16; 64], count: usize, name: u16) -> usize
     let n = cell::least(count, 64);
     let mut j: usize = 0;
     while j < n {
-        let h = wide(heads[j]);
+        let h = cell::wide(heads[j]);
         if cell::cell(nums, h) == name {
             return h;
         }
@@ -78,8 +76,8 @@ fn call_link(
     let close = closing(marks, open);
     Link {
         mark: CALL,
-        first: narrow(close - cell::least(open, close)),
-        second: narrow(on(close, 1)),
+        first: cell::low(close - cell::least(open, close)),
+        second: cell::low(on(close, 1)),
         past: cell::cell(ends, i),
     }
 }
@@ -89,7 +87,7 @@ fn if_link(marks: &[u16], ends: &[u16], i: usize) -> Link
     ensures { λ r. ⌜ r ≡ ifLink (now (marks .entry)) (now (ends .entry)) i ⌝ }
 {
     let yes = cell::cell(ends, on(i, 2));
-    let no = cell::cell(ends, wide(yes));
+    let no = cell::cell(ends, cell::wide(yes));
     let end = cell::cell(ends, i);
     if key(marks, on(i, 3)) == keys::EQA {
         return Link {
@@ -161,8 +159,8 @@ fn link_if(
     let room = reach.room;
     let used = reach.used;
     let l = if_link(marks, ends, i);
-    let yes = wide(l.first);
-    let no = wide(l.second);
+    let yes = cell::wide(l.first);
+    let no = cell::wide(l.second);
     let tested = on(i, 4);
     let h = past(ends, tested);
     set_link(code, i, l);

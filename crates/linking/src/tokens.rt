@@ -1,21 +1,21 @@
 // What a stored token holds, by its index.
-use sets::cell;
+use cells::cell;
 ghost use mathlib.Core.Path.{_≡_};
 ghost use Prim.Native.Nat.{_/_, _%_};
 ghost use mathlib.Core.Bool.{_&&_};
 ghost use lib.Dec.{eqb};
 ghost use lib.ListN.{getD};
-ghost use Rattle.linking.specs.Linking.{keyOf, kindOf, sameName, on};
+ghost use Rattle.linking.specs.twins.Linking.{keyOf, kindOf, sameName, on};
 
 // The token's place among the fixed words.
-pub(crate) fn key(marks: &[u16], i: usize) -> u16
+pub fn key(marks: &[u16], i: usize) -> u16
     ensures { λ r. ⌜ r ≡ keyOf (now (marks .entry)) i ⌝ }
 {
     cell::cell(marks, i) % 32
 }
 
 // The token's kind, by its tag.
-pub(crate) fn kind(marks: &[u16], i: usize) -> u16
+pub fn kind(marks: &[u16], i: usize) -> u16
     ensures { λ r. ⌜ r ≡ kindOf (now (marks .entry)) i ⌝ }
 {
     cell::cell(marks, i) / 32 % 8
@@ -38,21 +38,9 @@ pub(crate) fn on(i: usize, k: usize) -> usize
     cell::least(i, 4097) + cell::least(k, 4097)
 }
 
-pub(crate) fn narrow(x: usize) -> u16
-    ensures { λ r. ⌜ r ≡ x % 65536 ⌝ }
-{
-    (x % 65536) as u16
-}
-
-pub(crate) fn wide(x: u16) -> usize
-    ensures { λ r. ⌜ r ≡ x ⌝ }
-{
-    x as usize
-}
-
 // The index past what starts at i.
 pub(crate) fn past(ends: &[u16], i: usize) -> usize
     ensures { λ r. ⌜ r ≡ getD (now (ends .entry)) i 0 ⌝ }
 {
-    wide(cell::cell(ends, i))
+    cell::wide(cell::cell(ends, i))
 }

@@ -1,10 +1,10 @@
 // The listing of prog.tsg and job.txt in data/, written as `ura` writes it. It has three pages, so that one that is lost, or that starts at
 // another byte, is seen in what is printed. stdout was made by another implementation of 01.
+use cells::part::part;
 use pages::files::JOB;
 use pages::files::PROGRAM;
 use pages::files::read_file;
 use pages::output::list_texts;
-use pages::part::part;
 
 fn main() {
     let mut program_space = [0u8; PROGRAM];

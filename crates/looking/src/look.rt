@@ -1,12 +1,12 @@
 // What a `cons?` tests: the value of its expression, by the first cell.
+use cells::cell;
 use heap::configuration::Configuration;
-use heap::entry;
-use sets::cell;
+use sets::tree;
 use values::names::names_from;
 use values::value::Valued;
 use values::value::value;
 ghost use mathlib.Core.Path.{_≡_};
-ghost use Rattle.looking.specs.Looking.{headEndIn, testedAt, lookLeft, lookAt};
+ghost use Rattle.looking.specs.twins.Looking.{headEndIn, testedAt, lookLeft, lookAt};
 
 // Atom: an atom or a `?a` in this range. Pair: its head from `from` up to `mid`, its tail from there. Variable: a `?e`, which only a name's value is, so that
 // nothing was written. Large: the heap has no room for the value. `used` is what is used of the heap with the value in it.
@@ -33,9 +33,9 @@ fn head_end(heap: &[u16; 65535], at: usize, n: u16) -> usize
     ensures { λ r. ⌜ r ≡ headEndIn at n (now (heap .entry)) ⌝ }
 {
     if n == 0 {
-        return cell::tree_end(heap, at);
+        return tree::tree_end(heap, at);
     }
-    cell::least(at, 65535) + entry::wide(n)
+    cell::least(at, 65535) + cell::wide(n)
 }
 
 // A range by its first cell.
@@ -46,7 +46,7 @@ fn test_range(heap: &[u16; 65535], from: usize, to: usize, used: usize, known: u
         return Tested::Large;
     }
     let x = heap[from];
-    if x == cell::PAIR {
+    if x == tree::PAIR {
         let end = head_end(heap, from + 1, known / 2);
         return Tested::Pair {
             from: from + 1,

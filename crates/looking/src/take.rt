@@ -1,15 +1,15 @@
 // The branches of a `cons?` on what is a pair or an atom already: its names are bound to ranges of the heap, and nothing is copied.
+use cells::cell;
 use heap::configuration::Configuration;
 use heap::configuration::Moved;
 use heap::entry::Pushed;
 use linking::code::link_at;
-use sets::cell;
 use values::bind::bind;
 use values::names::names_from;
 ghost use mathlib.Core.Path.{_≡_};
 ghost use Prim.Native.Nat.{_≤_};
-ghost use Rattle.heap.specs.Entries.{pushAnswer};
-ghost use Rattle.looking.specs.Taking.{namesAt, placedAs, partsBound, atomBound, placedWith, taken, pairTaken, atomTaken};
+ghost use Rattle.heap.specs.twins.Entries.{pushAnswer};
+ghost use Rattle.looking.specs.twins.Taking.{namesAt, placedAs, partsBound, atomBound, placedWith, taken, pairTaken, atomTaken};
 
 // The token of the first name of the `cons?`: the names stand behind what is tested.
 fn names_at(code: &[u16; 24582], c: Configuration) -> usize

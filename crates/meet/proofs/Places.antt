@@ -6,8 +6,8 @@ use mathlib.Core.List.{List}
 use lib.Dec.{eqb, ltb}
 use lib.ListN.{length, getD}
 use native.Mathlib.Omega.{arith}
-use Rattle.brackets.specs.Passing.{behind as past, passed}
-use Rattle.meet.specs.Reading.{Behind, Onward}
+use Rattle.brackets.specs.twins.Passing.{behind as past, passed}
+use Rattle.meet.specs.twins.Reading.{Behind, Onward}
 use Rattle.brackets.specs.declared.place.Place.{Place}
 use Rattle.brackets.specs.declared.place.Read.{Read}
 use Rattle.brackets.specs.declared.place.Read.the-variants.{On, Broken}

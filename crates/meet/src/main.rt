@@ -14,6 +14,7 @@
 mod printer;
 mod reader;
 
+use cells::cell;
 use heap::entry;
 use libc::STDIN_FILENO;
 use meetings::class::Class;
@@ -21,9 +22,9 @@ use meetings::class::Met;
 use meetings::class::NODES;
 use meetings::unifier;
 use reader::Problem;
-use sets::cell;
 use sets::restriction;
 use sets::restriction::Restricted;
+use sets::tree;
 ghost use Prim.Native.Nat.{_≤_};
 ghost use lib.ListN.{length};
 
@@ -52,7 +53,7 @@ fn meet(
     let Restricted::Kept(n) = simplified else {
         return Met::Apart;
     };
-    cell::copy(written, 0, 2 * cell::least(n, NODES / 2), q, 0);
+    tree::copy(written, 0, 2 * cell::least(n, NODES / 2), q, 0);
     enter(frame, wanted, output);
     let class = Class {
         entries: 1,
@@ -76,8 +77,8 @@ fn print_met(
 ) -> usize {
     match met {
         Met::Common(c) => {
-            let to = entry::wide(frame[2]);
-            let from = cell::least(entry::wide(frame[1]), to);
+            let to = cell::wide(frame[2]);
+            let from = cell::least(cell::wide(frame[1]), to);
             let cells: &[u16] = heap;
             printer::common(page, at, text, names, &cells[from..to], q, c.neqs)
         }

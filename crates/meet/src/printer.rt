@@ -1,9 +1,10 @@
 // From cells to bytes, by way of a page: what is printed stands in its first `at` bytes, and a page that is full is written
 // out. Each function answers the place behind what it printed.
 use crate::reader;
+use cells::cell;
 use libc::STDOUT_FILENO;
 use meetings::class::NODES;
-use sets::cell;
+use sets::tree;
 
 // The place in the page, and the pairs that are open.
 struct Printed {
@@ -107,7 +108,7 @@ fn node(
     waits: &mut [u16],
 ) -> Printed {
     let open = from.open;
-    if code == cell::PAIR {
+    if code == tree::PAIR {
         if waits.len() <= open {
             return from;
         }

@@ -4,13 +4,14 @@ use brackets::place::Place;
 use brackets::place::Read;
 use brackets::place::inside;
 use brackets::place::pass;
+use cells::cell;
+use cells::cell::byte;
+use cells::part::part;
 use meetings::class::NODES;
-use sets::cell;
 use sets::contraction;
-ghost use mathlib.Core.Path.{_≡_};
+use sets::tree;
 ghost use Prim.Native.Nat.{_≤_};
-ghost use lib.ListN.{getD};
-ghost use Rattle.meet.specs.Reading.{Onward, Behind};
+ghost use Rattle.meet.specs.twins.Reading.{Onward, Behind};
 
 // "64 brackets open together", "1,024 different symbols"
 pub const BRACKETS: usize = 64;
@@ -32,13 +33,6 @@ pub enum Problem {
 struct LeafCode {
     code: u16,
     symbols: usize,
-}
-
-// The byte at a place, and 0 past the end.
-pub fn byte(text: &[u8], at: usize) -> u8
-    ensures { λ r. ⌜ r ≡ getD (now (text .entry)) at 0 ⌝ }
-{
-    if at < text.len() { text[at] } else { 0 }
 }
 
 fn is_blank(b: u8) -> bool {
@@ -89,17 +83,6 @@ fn word_end(text: &[u8], from: usize) -> usize
         i += 1;
     }
     i
-}
-
-// The bytes from one place up to another, none where the text has no such part.
-fn part(text: &[u8], from: usize, to: usize) -> &[u8] {
-    if text.len() < to {
-        return &text[..0];
-    }
-    if to < from {
-        return &text[..0];
-    }
-    &text[from..to]
 }
 
 // Whether a word stands at a place, and ends there.
@@ -309,7 +292,7 @@ fn keyword(text: &[u8], from: Read) -> Read {
 // Behind `(cons`, with the pair's cell stored; `at` is the bracket's place.
 fn pair_start(text: &[u8], from: Read, at: usize, cells: &mut [u16]) -> Read {
     let opened = bracket(text, from, b'(');
-    let stored = store(cells, cell::PAIR, at, opened);
+    let stored = store(cells, tree::PAIR, at, opened);
     keyword(text, stored)
 }
 

@@ -15,15 +15,15 @@ use Rattle.expressions.specs.Contraction.{CRPair}
 use Rattle.expressions.specs.Intersection.{meeting, nodesMeeting}
 use Rattle.expressions.proofs.Unification.{bound}
 use Rattle.sets.proofs.RestrictionLaws.{Front}
-use Rattle.heap.specs.Contracted.{Stores, contractedFrom}
-use Rattle.compaction.specs.Compacting.{Compaction, compacted}
+use Rattle.heap.specs.twins.Contracted.{Stores, contractedFrom}
+use Rattle.compaction.specs.twins.Compacting.{Compaction, compacted}
 use Rattle.runs.proofs.RunLaws.{Below, below-self}
 use Rattle.heap.proofs.HeapLaws.{Range, Filling}
 use Rattle.heap.proofs.FrameLaws.{Held, Contracts, Outcome, contract-means}
 use Rattle.compaction.proofs.CompactLaws.{Compacted, compact-means}
-use Rattle.meetings.specs.Classes.{outputEntry, withUsed, withNeqs}
-use Rattle.meetings.specs.Binding.{StepLeft, boundBeside, grownStores, entriesBound}
-use Rattle.meetings.specs.Unifying.{Roomed, roomed, roomedBy, roomMade}
+use Rattle.meetings.specs.twins.Classes.{outputEntry, withUsed, withNeqs}
+use Rattle.meetings.specs.twins.Binding.{StepLeft, boundBeside, grownStores, entriesBound}
+use Rattle.meetings.specs.twins.Unifying.{Roomed, roomed, roomedBy, roomMade}
 use Rattle.meetings.specs.declared.class.Class.{Class}
 use Rattle.meetings.specs.declared.class.Met.the-variants.{Over}
 use Rattle.meetings.specs.declared.class.Step.the-variants.{On, End}

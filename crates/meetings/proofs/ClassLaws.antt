@@ -13,8 +13,8 @@ use Rattle.expressions.specs.Substitution.{Substitution, apply, applyAll}
 use Rattle.expressions.specs.Contraction.{CRPair}
 use Rattle.expressions.specs.Class.{IOClass}
 use Rattle.expressions.specs.Intersection.{Meeting, meeting, nodesMeeting}
-use Rattle.heap.specs.Entries.{entryFrom, entryTo, nodesFrom}
-use Rattle.meetings.specs.Classes.{outputEntry, wantedEntry, classNodes}
+use Rattle.heap.specs.twins.Entries.{entryFrom, entryTo, nodesFrom}
+use Rattle.meetings.specs.twins.Classes.{outputEntry, wantedEntry, classNodes}
 use Rattle.meetings.specs.declared.class.Class.{Class}
 use Rattle.sets.proofs.RestrictionLaws.{Front}
 use Rattle.heap.proofs.HeapLaws.{Holds, nodes-positive}

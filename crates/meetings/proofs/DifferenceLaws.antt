@@ -13,9 +13,10 @@ use Rattle.expressions.specs.Expression.{AtomicExp, sym, avar, Exp, atm, evar, 
 use Rattle.expressions.specs.Restriction.{sameAtomic}
 use Rattle.expressions.specs.Contraction.{Contraction, identity, contra, bindE, bindA, nonEqual, mkBind}
 use Rattle.expressions.specs.Intersection.{occurs, bindUnlessOccurs, first, disagreement}
-use Rattle.sets.specs.Cells.{pairCode, evarCode, avarCode, atomicCode, cells, part, treeEnd, anyCell}
-use Rattle.runs.specs.Runs.{cellsAt, run}
-use Rattle.meetings.specs.Differing.{commonFront, firstDifference, unlessStanding, atomicBy, judgedBy, differingAt, leftmostIn}
+use Rattle.sets.specs.twins.Copying.{part, treeEnd, anyCell}
+use Rattle.sets.specs.Cells.{pairCode, evarCode, avarCode, atomicCode, cells}
+use Rattle.runs.specs.twins.Runs.{cellsAt, run}
+use Rattle.meetings.specs.twins.Differing.{commonFront, firstDifference, unlessStanding, atomicBy, judgedBy, differingAt, leftmostIn}
 use Rattle.meetings.specs.declared.difference.Disagreement.{Disagreement}
 use Rattle.meetings.specs.declared.difference.Disagreement.the-variants.{Same, Apart, Bind}
 use Rattle.expressions.proofs.Tests.{eqb-same}

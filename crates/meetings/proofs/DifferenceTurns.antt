@@ -5,9 +5,9 @@ use mathlib.Core.List.{List, [], _∷_}
 use native.Mathlib.Omega.{arith}
 use lib.ListN.{getD}
 use borrow.Author.Tests.{eq-eqb, ne-eqb}
-use Rattle.runs.specs.Runs.{run}
+use Rattle.runs.specs.twins.Runs.{run}
 use Rattle.runs.proofs.RunLaws.{run-cons, run-end}
-use Rattle.meetings.specs.Differing.{commonFront, firstDifference}
+use Rattle.meetings.specs.twins.Differing.{commonFront, firstDifference}
 use Rattle.meetings.specs.declared.difference.Difference.{Difference}
 
 common-none : (a : List ℕ) → commonFront a [] ≡ 0

@@ -7,15 +7,15 @@ use native.Mathlib.Omega.{arith}
 use lib.Dec.{eqb, leb, ltb}
 use lib.ListN.{length, getD, set, length-set}
 use lib.Seq.{sets, length-sets}
-use Rattle.sets.specs.Fill.{fillAnswer}
+use Rattle.sets.specs.twins.Fill.{fillAnswer}
 use Rattle.sets.specs.declared.fill.Filled.{Filled}
 use Rattle.sets.specs.declared.fill.Filled.the-variants.{Done, Over}
-use Rattle.codes.specs.Knowing.{knownAfter, closedAs}
-use Rattle.codes.specs.Outcomes.{unmoved}
-use Rattle.runs.specs.Runs.{run, countIn, anyVariable, written, appendedFilled, replaceAnswer, movedAnswer, replaced}
+use Rattle.codes.specs.twins.Knowing.{knownAfter, closedAs}
+use Rattle.codes.specs.twins.Outcomes.{unmoved}
+use Rattle.runs.specs.twins.Runs.{run, countIn, anyVariable, written, appendedFilled, replaceAnswer, movedAnswer, replaced}
 use Rattle.codes.specs.declared.outcome.Replaced.the-variants.{Over as ReplacedOver}
-use Rattle.heap.specs.Entries.{entry, entryKnown, entryFrom, entryTo}
-use Rattle.heap.specs.Contracted.{Stores, stores, leafEntered, enteredReplaced, onward, onwardFrom, contractedEntry, contractedFrom}
+use Rattle.heap.specs.twins.Entries.{entry, entryKnown, entryFrom, entryTo}
+use Rattle.heap.specs.twins.Contracted.{Stores, stores, leafEntered, enteredReplaced, onward, onwardFrom, contractedEntry, contractedFrom}
 use Rattle.runs.proofs.RunLaws.{Below, below-self, below-sets}
 use Rattle.heap.proofs.FrameLaws.{entry-length}
 

@@ -9,15 +9,17 @@ use Rattle.expressions.specs.Expression.{Exp, nodes, nodesAll}
 use Rattle.expressions.specs.Contraction.{CRPair}
 use Rattle.expressions.specs.Class.{IOClass, nodesClass}
 use Rattle.expressions.specs.Intersection.{meeting}
-use Rattle.sets.specs.Cells.{cells, cellsAll, restrictionCells, CopyAnswer, copied}
+use Rattle.sets.specs.twins.Copying.{CopyAnswer, copied}
+use Rattle.sets.specs.Cells.{cells, cellsAll, restrictionCells}
 use Rattle.sets.proofs.CellLaws.{cells-nodes, cellsAll-nodes, restrictionCells-nodes, copied-done}
 use Rattle.sets.proofs.RestrictionLaws.{front-room}
-use Rattle.heap.specs.Entries.{entryFrom, entryTo}
+use Rattle.heap.specs.twins.Entries.{entryFrom, entryTo}
 use Rattle.heap.proofs.HeapLaws.{Holds, nodes-positive}
 use Rattle.heap.proofs.FrameLaws.{Held, none, more}
 use Rattle.heap.proofs.NodeLaws.{holds-nodes, held-nodes}
-use Rattle.meetings.specs.Classes.{placeIn, outputEntry, wantedEntry}
-use Rattle.meetings.specs.LineCells.{classCells, lineCells, lineAnswer, lastPlace, headerPut, entryPut, onFrom, entriesPut, sidesPut, headerOf, linePut}
+use Rattle.meetings.specs.twins.Classes.{placeIn, outputEntry, wantedEntry}
+use Rattle.meetings.specs.ClassCells.{classCells, lineCells}
+use Rattle.meetings.specs.twins.LineCells.{lineAnswer, lastPlace, headerPut, entryPut, onFrom, entriesPut, sidesPut, headerOf, linePut}
 use Rattle.meetings.specs.declared.class.Class.{Class}
 use Rattle.meetings.specs.declared.line.Header.{Header}
 use Rattle.meetings.proofs.DifferenceLaws.{run-part}

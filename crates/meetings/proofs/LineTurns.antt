@@ -3,7 +3,7 @@ use Prim.Native.Nat.{ℕ, suc, _+_, _-_, _≤_, _<_}
 use mathlib.Core.Path.{_≡_}
 use mathlib.Core.List.{List}
 use native.Mathlib.Omega.{arith}
-use Rattle.meetings.specs.LineCells.{lineAnswer, entryPut, entriesPut}
+use Rattle.meetings.specs.twins.LineCells.{lineAnswer, entryPut, entriesPut}
 
 module _ (n : ℕ) (h f : List ℕ) (top : ℕ) (a : List ℕ) where
   pub entries-start : entriesPut n 0 h f top a ≡ entriesPut (n - 0) 0 h f top a

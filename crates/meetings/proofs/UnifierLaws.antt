@@ -17,17 +17,17 @@ use Rattle.expressions.proofs.Combination.{simplify-idempotent}
 use Rattle.expressions.proofs.Unification.{bound}
 use Rattle.expressions.proofs.Disagreement.{IsIdentity, disagreement-identity}
 use Rattle.sets.specs.Cells.{evarCode, avarCode, atomicCode, cells}
-use Rattle.sets.specs.Restricting.{RestrictAnswer, bindCells}
+use Rattle.sets.specs.twins.Restricting.{RestrictAnswer, bindCells}
 use Rattle.sets.proofs.ContractionLaws.{code-tag}
 use Rattle.sets.proofs.RestrictionLaws.{Answers, bindCells-means}
-use Rattle.heap.specs.Moving.{boundRestriction}
+use Rattle.heap.specs.twins.Moving.{boundRestriction}
 use Rattle.runs.proofs.RunLaws.{Below, below-self, run-cons}
 use Rattle.heap.proofs.HeapLaws.{Holds, filling-e, filling-a}
 use Rattle.heap.proofs.FrameLaws.{Held}
 use Rattle.heap.proofs.NodeLaws.{holds-nodes}
-use Rattle.meetings.specs.Classes.{placeIn, outputEntry, wantedEntry, bindingsIn}
-use Rattle.meetings.specs.Binding.{StepLeft, boundFrom, variableBound}
-use Rattle.meetings.specs.Unifying.{disagreementIn, unifiedBy, unifyStepped, Roomed, roomMade, unifyTurned, MetLeft, metLeft, onStepFrom, unifiedMany, unified}
+use Rattle.meetings.specs.twins.Classes.{placeIn, outputEntry, wantedEntry, bindingsIn}
+use Rattle.meetings.specs.twins.Binding.{StepLeft, boundFrom, variableBound}
+use Rattle.meetings.specs.twins.Unifying.{disagreementIn, unifiedBy, unifyStepped, Roomed, roomMade, unifyTurned, MetLeft, metLeft, onStepFrom, unifiedMany, unified}
 use Rattle.meetings.specs.declared.difference.Disagreement.{Disagreement}
 use Rattle.meetings.specs.declared.class.Class.{Class}
 use Rattle.meetings.specs.declared.class.Met.the-variants.{Common, Apart, Over}

@@ -3,8 +3,8 @@ use Prim.Native.Nat.{ℕ, zero, suc, _-_, _≤_, _<_}
 use mathlib.Core.Path.{_≡_, refl}
 use mathlib.Core.List.{List}
 use native.Mathlib.Omega.{arith}
-use Rattle.meetings.specs.Binding.{stepLeft}
-use Rattle.meetings.specs.Unifying.{metLeft, unifyTurned, unifiedMany}
+use Rattle.meetings.specs.twins.Binding.{stepLeft}
+use Rattle.meetings.specs.twins.Unifying.{metLeft, unifyTurned, unifiedMany}
 use Rattle.meetings.specs.declared.class.Class.{Class}
 use Rattle.meetings.specs.declared.class.Met.{Met}
 use Rattle.meetings.specs.declared.class.Met.the-variants.{Apart}

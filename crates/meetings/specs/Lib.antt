@@ -1,5 +1,2 @@
-pub mod Differing
-pub mod Classes
-pub mod Binding
-pub mod Unifying
-pub mod LineCells
+pub mod ClassCells
+pub mod twins

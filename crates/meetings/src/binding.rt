@@ -3,12 +3,12 @@ use crate::class;
 use crate::class::Class;
 use crate::class::Met;
 use crate::class::Step;
+use cells::cell;
 use heap::apply::bind_restriction;
 use heap::contract;
-use sets::cell;
 use sets::restriction::Restricted;
 ghost use mathlib.Core.Path.{_≡_};
-ghost use Rattle.meetings.specs.Binding.{bound, stepLeft, entriesBound, variableBound};
+ghost use Rattle.meetings.specs.twins.Binding.{bound, stepLeft, entriesBound, variableBound};
 
 // The variable bound to the tree of a range in the inputs, w and u.
 fn bind_entries(

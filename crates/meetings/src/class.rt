@@ -1,11 +1,11 @@
 // What meets: the inputs and then the wanted output w are the first entries of the frame, the output u is the next one, q holds the non-equalities.
+use cells::cell;
 use heap::entry;
-use sets::cell;
 use sets::fill::Filled;
 ghost use mathlib.Core.Path.{_≡_};
 ghost use Prim.Native.Nat.{min, _-_, _≤_};
-ghost use Rattle.heap.specs.Entries.{entryFrom, entryTo};
-ghost use Rattle.meetings.specs.Classes.{placeIn, classNodes, sizedBy, grownBy, bindingsIn};
+ghost use Rattle.heap.specs.twins.Entries.{entryFrom, entryTo};
+ghost use Rattle.meetings.specs.twins.Classes.{placeIn, classNodes, sizedBy, grownBy, bindingsIn};
 
 // "over 4,096 nodes"
 pub const NODES: usize = 4096;
@@ -42,8 +42,8 @@ pub(crate) fn entry_at(frame: &[u16; 12360], i: usize) -> Place
     ensures { λ r. ⌜ r ≡ placeIn i (now (frame .entry)) ⌝ }
 {
     let j = cell::least(i, 4119);
-    let from = entry::wide(frame[3 * j + 1]);
-    let to = entry::wide(frame[3 * j + 2]);
+    let from = cell::wide(frame[3 * j + 1]);
+    let to = cell::wide(frame[3 * j + 2]);
     Place { from: from, to: to }
 }
 
@@ -52,8 +52,8 @@ pub(crate) fn entry_size(frame: &[u16; 12360], i: usize) -> usize
     ensures { λ r. ⌜ (r ≡ entryTo (now (frame .entry)) (min i 4119) - entryFrom (now (frame .entry)) (min i 4119)) × (r ≤ 65535) ⌝ }
 {
     let j = cell::least(i, 4119);
-    let from = entry::wide(frame[3 * j + 1]);
-    let to = entry::wide(frame[3 * j + 2]);
+    let from = cell::wide(frame[3 * j + 1]);
+    let to = cell::wide(frame[3 * j + 2]);
     to - cell::least(from, to)
 }
 

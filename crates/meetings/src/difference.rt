@@ -1,8 +1,9 @@
 // The leftmost disagreement of the wanted output with the output: the first place at which their runs of the heap differ.
-use sets::cell;
+use cells::cell;
+use sets::tree;
 ghost use mathlib.Core.Path.{_≡_};
 ghost use Prim.Native.Nat.{_<_, _≤_};
-ghost use Rattle.meetings.specs.Differing.{firstDifference, unlessStanding, atomicJudged, judged, leftmostIn};
+ghost use Rattle.meetings.specs.twins.Differing.{firstDifference, unlessStanding, atomicJudged, judged, leftmostIn};
 
 // What removes it: nothing is to be removed, nothing can; a variable bound to the tree of a range, of which a leaf is one of one cell.
 pub enum Disagreement {
@@ -56,8 +57,8 @@ fn first_difference(
 fn bind_unless_occurs(heap: &[u16; 65535], var: u16, from: usize, to: usize) -> Disagreement
     ensures { λ r. ⌜ r ≡ unlessStanding var from to (now (heap .entry)) ⌝ }
 {
-    let end = cell::least(cell::tree_end(heap, from), to);
-    if cell::stands_in(heap, from, end, var) {
+    let end = cell::least(tree::tree_end(heap, from), to);
+    if tree::stands_in(heap, from, end, var) {
         return Disagreement::Apart;
     }
     Disagreement::Bind {

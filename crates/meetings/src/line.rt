@@ -2,11 +2,12 @@
 // non-equalities' sides.
 use crate::class;
 use crate::class::Class;
+use cells::cell;
 use heap::entry;
-use sets::cell;
+use sets::tree;
 ghost use mathlib.Core.Path.{_≡_};
 ghost use Prim.Native.Nat.{_≤_};
-ghost use Rattle.meetings.specs.LineCells.{lineAnswer, headerPut, entryPut, entriesPut, linePut};
+ghost use Rattle.meetings.specs.twins.LineCells.{lineAnswer, headerPut, entryPut, entriesPut, linePut};
 
 // A place past this one is as this one: no answer storage is so long.
 const LAST: usize = 16777216;
@@ -24,10 +25,10 @@ fn put_header(h: Header, answer: &mut [u16], top: usize) -> usize
     ensures { λ r. ⌜ lineAnswer r (now (answer .exit)) ≡ headerPut h top (now (answer .entry)) ⌝ }
 {
     let at = cell::least(top, LAST);
-    cell::put(answer, at, entry::narrow(h.steps));
-    cell::put(answer, at + 1, entry::narrow(h.ins));
-    cell::put(answer, at + 2, entry::narrow(h.out));
-    cell::put(answer, at + 3, entry::narrow(h.neqs));
+    cell::put(answer, at, cell::narrow(h.steps));
+    cell::put(answer, at + 1, cell::narrow(h.ins));
+    cell::put(answer, at + 2, cell::narrow(h.out));
+    cell::put(answer, at + 3, cell::narrow(h.neqs));
     at + 4
 }
 
@@ -44,7 +45,7 @@ fn put_entry(
     let at = cell::least(top, LAST);
     let p = class::entry_at(frame, i);
     let n = class::entry_size(frame, i);
-    cell::copy(heap, p.from, n, answer, at);
+    tree::copy(heap, p.from, n, answer, at);
     at + n
 }
 
@@ -94,6 +95,6 @@ pub fn put_line(
         LAST,
     );
     let sides = 2 * cell::least(c.neqs, 2048);
-    cell::copy(q, 0, sides, answer, end);
+    tree::copy(q, 0, sides, answer, end);
     end + sides
 }

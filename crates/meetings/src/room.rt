@@ -3,7 +3,7 @@ use crate::class;
 use crate::class::Class;
 use compaction::compact;
 ghost use mathlib.Core.Path.{_≡_};
-ghost use Rattle.meetings.specs.Unifying.{roomed, roomMade};
+ghost use Rattle.meetings.specs.twins.Unifying.{roomed, roomMade};
 
 // So much may be used that twice the nodes of a class have room behind it.
 pub(crate) const ROOMY: usize = 57343;

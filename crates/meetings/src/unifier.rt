@@ -8,8 +8,8 @@ use crate::difference;
 use crate::difference::Disagreement;
 use crate::room;
 ghost use mathlib.Core.Path.{_≡_};
-ghost use Rattle.meetings.specs.Binding.{stepLeft};
-ghost use Rattle.meetings.specs.Unifying.{disagreementIn, unifyStepped, unifyTurned, metLeft, unified};
+ghost use Rattle.meetings.specs.twins.Binding.{stepLeft};
+ghost use Rattle.meetings.specs.twins.Unifying.{disagreementIn, unifyStepped, unifyTurned, metLeft, unified};
 
 // The leftmost disagreement of the entries w and u.
 fn disagreement(heap: &[u16; 65535], frame: &[u16; 12360], c: Class) -> Disagreement

@@ -5,7 +5,7 @@ use mathlib.Core.Bool.{Bool, true, false, false≢true}
 use mathlib.Core.List.{List}
 use lib.ListN.{length, take, drop, length-take}
 use native.Mathlib.Omega.{arith}
-use Rattle.window.specs.Sink.{Printed}
+use Rattle.window.specs.Windows.{Printed}
 
 -- a window as long as a page is the page
 pub page-shown : (from : ℕ) {r m n : ℕ} (text : List ℕ) {x : List ℕ} → m ≡ n → Printed m from text r x → Printed n from text r x

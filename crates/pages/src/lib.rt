@@ -2,4 +2,3 @@
 pub mod files;
 pub mod output;
 pub mod page;
-pub mod part;

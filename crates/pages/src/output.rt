@@ -1,7 +1,7 @@
 // What the entries answer, written to standard output page by page. No contract can say what is written; these say how much was taken.
 use crate::page::list_page;
 use crate::page::run_page;
-use crate::part::part;
+use cells::part::part;
 use libc::EAGAIN;
 use libc::EINTR;
 use libc::STDOUT_FILENO;
@@ -14,8 +14,8 @@ ghost use Prim.Native.Nat.{_≤_, min};
 ghost use lib.ListN.{length, replicate};
 ghost use Rattle.resolve.specs.ListAnswer.{listLeft};
 ghost use Rattle.resolve.specs.RunAnswer.{runLeft};
-ghost use Rattle.print.specs.ListedText.{listedText};
-ghost use Rattle.print.specs.RanText.{ranText};
+ghost use Rattle.print.specs.twins.ListedText.{listedText};
+ghost use Rattle.print.specs.twins.RanText.{ranText};
 
 // How many writes in a row may take nothing before writing counts as failed: a reader may stand still for some seconds.
 const TRIES: usize = 10000000;

@@ -5,9 +5,9 @@ use print::ran::print_run;
 ghost use mathlib.Core.Path.{_≡_};
 ghost use Prim.Native.Nat.{_*_, _-_, min};
 ghost use lib.ListN.{length};
-ghost use Rattle.window.specs.Sink.{windowed};
-ghost use Rattle.print.specs.ListedText.{listedText};
-ghost use Rattle.print.specs.RanText.{ranText};
+ghost use Rattle.window.specs.Windows.{windowed};
+ghost use Rattle.print.specs.twins.ListedText.{listedText};
+ghost use Rattle.print.specs.twins.RanText.{ranText};
 
 // Page k of a listing, and how many of its bytes are text. `cells` is the answer storage that `list` left.
 pub fn list_page(

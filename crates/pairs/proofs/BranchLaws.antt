@@ -20,17 +20,17 @@ use Rattle.semantics.specs.Environment.{Env}
 use Rattle.semantics.specs.Configuration.{substOfEnv, state, nodesState, Configuration}
 use Rattle.semantics.specs.Trace.{Successors, branches, tracePair, successorsOf}
 use Rattle.semantics.proofs.Scopes.{Covers, WellScoped, scoped-consp}
-use Rattle.heap.specs.Moving.{Left, left}
+use Rattle.heap.specs.twins.Moving.{Left, left}
 use Rattle.heap.specs.declared.configuration.Configuration.{Configuration as InCells}
 use Rattle.heap.specs.declared.configuration.Moved.the-variants.{Over}
 use Rattle.runs.proofs.RunLaws.{Below}
-use Rattle.linking.specs.Linked.{TermLinked}
+use Rattle.linking.specs.twins.Linked.{TermLinked}
 use Rattle.constants.proofs.ConstantLaws.{Constants}
 use Rattle.values.proofs.ValueLaws.{Known}
 use Rattle.values.proofs.StateLaws.{isNone, HoldsPair, known-in-scope, Stands, Arrives, Leads, none-leads}
 use Rattle.values.proofs.ContractionLaws.{few-entries}
-use Rattle.looking.specs.Looking.{LookLeft, lookAt}
-use Rattle.pairs.specs.Branching.{branchesOf, trueTaken, falseTaken}
+use Rattle.looking.specs.twins.Looking.{LookLeft, lookAt}
+use Rattle.pairs.specs.twins.Branching.{branchesOf, trueTaken, falseTaken}
 use Rattle.looking.specs.declared.look.Tested.{Tested}
 use Rattle.pairs.proofs.LookLaws.{TestAt, test-at, Looked, atomAt, variableAt, pairAt, largeAt, Looks, look-means}
 use Rattle.pairs.proofs.TakeLaws.{withNeqs, later-holds, over-leads, both-have, pair-leads, atom-leads}

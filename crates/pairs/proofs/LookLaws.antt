@@ -14,31 +14,32 @@ use Rattle.expressions.specs.Substitution.{apply}
 use Rattle.expressions.specs.Contraction.{CRPair}
 use Rattle.language.specs.Program.{Term, consp, conditional, Param, pe, pa, Prog}
 use Rattle.semantics.specs.Configuration.{substOfEnv, state}
-use Rattle.sets.specs.Cells.{cells, treeEnd, evarCode, atomicCode}
-use Rattle.sets.specs.Fill.{FillAnswer, fillAnswer}
+use Rattle.sets.specs.twins.Copying.{treeEnd}
+use Rattle.sets.specs.Cells.{cells, evarCode, atomicCode}
+use Rattle.sets.specs.twins.Fill.{FillAnswer, fillAnswer}
 use Rattle.sets.specs.declared.fill.Filled.{Filled}
 use Rattle.sets.specs.declared.fill.Filled.the-variants.{Done, Over as FilledOver}
-use Rattle.runs.specs.Runs.{written, run}
+use Rattle.runs.specs.twins.Runs.{written, run}
 use Rattle.heap.specs.declared.configuration.Configuration.{Configuration}
 use Rattle.runs.proofs.RunLaws.{Below, below-self, below-sets, run-cons}
 use Rattle.heap.proofs.HeapLaws.{Holds}
 use Rattle.heap.proofs.KnownLaws.{KnownOf}
 use Rattle.heap.proofs.NodeLaws.{holds-nodes}
 use Rattle.heap.proofs.PairLaws.{head-holds, tail-holds, head-end}
-use Rattle.linking.specs.Code.{link, linkAt}
-use Rattle.linking.specs.Linked.{placeIn, withName, ExpLinked, TermLinked, testLinked}
+use Rattle.linking.specs.twins.Code.{link, linkAt}
+use Rattle.linking.specs.twins.Linked.{placeIn, withName, ExpLinked, TermLinked, testLinked}
 use Rattle.linking.specs.declared.code.Link.{Link}
-use Rattle.linking.specs.Places.{envOf}
+use Rattle.linking.specs.twins.Places.{envOf}
 use Rattle.constants.proofs.ConstantLaws.{Constants}
-use Rattle.constants.specs.Table.{constantAt}
-use Rattle.values.specs.Values.{onwardFill, tokenWritten, tokensWritten, ValueLeft, madeOf, valueAt}
+use Rattle.constants.specs.twins.Table.{constantAt}
+use Rattle.values.specs.twins.Values.{onwardFill, tokenWritten, tokensWritten, ValueLeft, madeOf, valueAt}
 use Rattle.values.proofs.ValueLaws.{past-linked, Known}
 use Rattle.values.proofs.RoomLaws.{value-outcome}
 use Rattle.values.proofs.RoomLaws as values
 use Rattle.values.proofs.StateLaws.{HoldsPair}
-use Rattle.values.specs.Names.{namesFrom}
-use Rattle.looking.specs.Looking.{testAt, headEndIn, testedBy, testedAt, LookLeft, lookLeft, testedValue, lookAt}
-use Rattle.looking.specs.Taking.{namesAt}
+use Rattle.values.specs.twins.Names.{namesFrom}
+use Rattle.looking.specs.twins.Looking.{testAt, headEndIn, testedBy, testedAt, LookLeft, lookLeft, testedValue, lookAt}
+use Rattle.looking.specs.twins.Taking.{namesAt}
 use Rattle.looking.specs.declared.look.Tested.{Tested}
 use Rattle.looking.specs.declared.look.Tested.the-variants.{Atom, Pair, Variable, Large}
 use Rattle.pairs.proofs.NameLaws.{names-held, entries-are}

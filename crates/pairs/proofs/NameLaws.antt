@@ -12,7 +12,7 @@ use Rattle.expressions.specs.Contraction.{CRPair}
 use Rattle.language.specs.Program.{Param, pe, pa, sameParam}
 use Rattle.semantics.specs.Environment.{updateE, updateA}
 use Rattle.semantics.specs.Configuration.{ExpEnv, state, withEnv}
-use Rattle.heap.specs.Entries.{PushAnswer}
+use Rattle.heap.specs.twins.Entries.{PushAnswer}
 use Rattle.heap.specs.declared.entry.Pushed.the-variants.{Done}
 use Rattle.heap.specs.declared.configuration.Configuration.{Configuration}
 use Rattle.runs.proofs.RunLaws.{below-self}
@@ -20,14 +20,14 @@ use Rattle.heap.proofs.HeapLaws.{Holds}
 use Rattle.heap.proofs.FrameLaws.{Held, held-front}
 use Rattle.heap.proofs.PartLaws.{held-first, held-second, held-joined}
 use Rattle.heap.proofs.NodeLaws.{holds-nodes}
-use Rattle.linking.specs.Linked.{placeIn, withName}
-use Rattle.linking.specs.Places.{envOf, withValue}
+use Rattle.linking.specs.twins.Linked.{placeIn, withName}
+use Rattle.linking.specs.twins.Places.{envOf, withValue}
 use Rattle.linking.proofs.PlaceLaws.{bound-e, bound-a}
-use Rattle.values.specs.Binding.{boundAt}
+use Rattle.values.specs.twins.Binding.{boundAt}
 use Rattle.values.proofs.ValueLaws.{Typed, noneTyped, eTyped, aTyped, typed-length}
 use Rattle.values.proofs.BindLaws.{Bound, bind-means}
 use Rattle.values.proofs.StateLaws.{trees, HoldsPair, nodes-length}
-use Rattle.values.specs.Names.{namesFrom}
+use Rattle.values.specs.twins.Names.{namesFrom}
 
 pub place-most : (x : Param) (sc : List Param) → placeIn x sc ≤ length sc
 place-most x [] = omega arith

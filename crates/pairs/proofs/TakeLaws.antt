@@ -14,21 +14,21 @@ use Rattle.expressions.specs.Contraction.{CRPair}
 use Rattle.language.specs.Program.{Term, Param, pe, pa, Prog}
 use Rattle.semantics.specs.Environment.{update, updateE, updateA}
 use Rattle.semantics.specs.Configuration.{state, withEnv, nodesValues, nodesState, Configuration}
-use Rattle.heap.specs.Entries.{PushAnswer}
-use Rattle.heap.specs.Moving.{Left, left}
-use Rattle.heap.specs.Moving.{Move}
+use Rattle.heap.specs.twins.Entries.{PushAnswer}
+use Rattle.heap.specs.twins.Moving.{Left, left}
+use Rattle.heap.specs.twins.Moving.{Move}
 use Rattle.heap.specs.declared.configuration.Configuration.{Configuration as InCells}
 use Rattle.heap.specs.declared.configuration.Moved.{Moved}
 use Rattle.heap.specs.declared.configuration.Moved.the-variants.{On, Over}
 use Rattle.runs.proofs.RunLaws.{Below}
 use Rattle.heap.proofs.HeapLaws.{Holds}
 use Rattle.heap.proofs.FrameLaws.{held-kept}
-use Rattle.linking.specs.Linked.{placeIn, withName, TermLinked}
-use Rattle.values.specs.Binding.{boundAt}
+use Rattle.linking.specs.twins.Linked.{placeIn, withName, TermLinked}
+use Rattle.values.specs.twins.Binding.{boundAt}
 use Rattle.values.proofs.StateLaws.{HoldsPair, Leads, leads-to}
 use Rattle.values.proofs.ContractionLaws.{usedTo, pair-same}
-use Rattle.values.specs.Names.{namesFrom}
-use Rattle.looking.specs.Taking.{placedAs, partsBound, atomBound, placedWith, pairTaken, atomTaken}
+use Rattle.values.specs.twins.Names.{namesFrom}
+use Rattle.looking.specs.twins.Taking.{placedAs, partsBound, atomBound, placedWith, pairTaken, atomTaken}
 use Rattle.pairs.proofs.NameLaws.{entriesTo, Named, bound-name-e, bound-name-a}
 use Rattle.pairs.proofs.LookLaws.{TestAt, names-from-is}
 

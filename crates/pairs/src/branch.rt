@@ -8,8 +8,8 @@ use looking::look::Tested;
 use looking::take::take_atom;
 use looking::take::take_pair;
 ghost use mathlib.Core.Path.{_≡_};
-ghost use Rattle.heap.specs.Moving.{moved};
-ghost use Rattle.pairs.specs.Branching.{trueTaken, falseTaken, branchesOf};
+ghost use Rattle.heap.specs.twins.Moving.{moved};
+ghost use Rattle.pairs.specs.twins.Branching.{trueTaken, falseTaken, branchesOf};
 
 // Of an atom the false one, of a pair the true one, of a `?e` both. A value that the heap has no room for is a pair.
 pub fn branches_of(t: Tested) -> Branches

@@ -14,8 +14,8 @@ use sets::counter::Counter;
 use sets::counter::Handed;
 use sets::fill::Filled;
 ghost use mathlib.Core.Path.{_≡_};
-ghost use Rattle.heap.specs.Moving.{moved};
-ghost use Rattle.pairs.specs.Splitting.{filledOn, contractedAll, boundContracted, pairMade, atomMade, pairSplit, atomSplit};
+ghost use Rattle.heap.specs.twins.Moving.{moved};
+ghost use Rattle.pairs.specs.twins.Splitting.{filledOn, contractedAll, boundContracted, pairMade, atomMade, pairSplit, atomSplit};
 
 // What a contraction left.
 fn filled_on(c: Configuration, w: Filled) -> Moved

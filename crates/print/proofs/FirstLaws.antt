@@ -9,17 +9,18 @@ use borrow.Author.Tests.{le-ltb}
 use Rattle.language.specs.Source.{SProg, SJob, prog, class}
 use Rattle.language.specs.JobCheck.{lister}
 use Rattle.language.specs.Reading.{accepted, reading}
-use Rattle.listing.specs.Text.{printRefusal}
-use Rattle.reading.specs.BothCells.{bothOver}
+use Rattle.listing.specs.Text.{printRefusal, listText}
+use Rattle.semantics.specs.Answer.{limits}
+use Rattle.reading.specs.twins.BothCells.{bothOver}
 use Rattle.answers.specs.Headings.{headingOf}
 use Rattle.answers.specs.declared.list.Answer.{Answer}
 use Rattle.answers.specs.declared.list.Answer.the-variants.{Short}
 use Rattle.resolve.specs.ListAnswer.{tooShort, listLeft}
-use Rattle.resolve.specs.ListDemand.{Ended, StoredListing}
-use Rattle.resolve.specs.ListCells.{ListOut, listTexts}
+use Rattle.resolve.specs.ListDemand.{Answered, StoredListing}
+use Rattle.resolve.specs.twins.ListCells.{ListOut, listTexts}
 use Rattle.resolve.proofs.ListDemand.{LeftAs, promised, list-said}
-use Rattle.window.specs.Sink.{windowed, Printed}
-use Rattle.print.specs.ListedText.{readListing, headedText, listedText}
+use Rattle.window.specs.Windows.{windowed, Printed}
+use Rattle.print.specs.twins.ListedText.{readListing, headedText, listedText}
 use Rattle.print.proofs.Printed.{list-printed, first-printed}
 
 module _ (program job work d : List ℕ) where
@@ -32,13 +33,14 @@ module _ (program job work d : List ℕ) where
   Promise n r bytes x a page =
       (let w = listLeft program job work d in
       let text = listedText program job (w .cells) (w .answer) in ((r ≡ w .answer) × (x ≡ w .work) × (a ≡ w .cells)) × ((bytes ≡ min n (length text)) × (page ≡ windowed n 0 text)))
-      × ((s : SProg) (t : SJob) → reading lister program job ≡ accepted s t → Ended r → StoredListing (prog s) (class t) (t .steps .num) r a)
+      × (tooShort work d ≡ false → firstText ≡ listText program job)
+      × ((s : SProg) (t : SJob) → reading lister program job ≡ accepted s t → Answered r → StoredListing (prog s) (class t) (t .steps .num) (limits t) r a)
 
   first-promised : (n : ℕ) {text : List ℕ} {r : Answer} {bytes : ℕ} {x a page : List ℕ} → LeftAs program job work d r x a → text ≡ firstText → Printed n 0 text bytes page → Promise n r bytes x a page
   first-promised n {text = text} e f p =
       let z : length text - 0 ≡ length text = omega arith in
       let q = promised program job work d e in
-      ((q .0, (p .0 ∙ ap (min n) z ∙ ap (λ (t : List ℕ). min n (length t)) f, p .1 ∙ ap (windowed n 0) f)), q .1)
+      ((q .0, (p .0 ∙ ap (min n) z ∙ ap (λ (t : List ℕ). min n (length t)) f, p .1 ∙ ap (windowed n 0) f)), λ long. list-printed program job work d long, q .1)
 
   pub short-promised : (n : ℕ) {r : Answer} {bytes : ℕ} {page : List ℕ} → r ≡ Short → LeftAs program job work d Short work d → Printed n 0 (printRefusal 45 20 0) bytes page → Promise n r bytes work d page
   short-promised n f e p = first-promised n (f ∙ e .0, e .1, e .2) (ap (λ (a : Answer). listedText program job (listLeft program job work d .cells) a) (e .0)) p

@@ -14,12 +14,13 @@ use Rattle.semantics.specs.Demand2.{InstanceOf}
 use Rattle.semantics.specs.Tree.{Line}
 use Rattle.semantics.specs.Walk.{Walked, wordOf, linesOf, countOf}
 use Rattle.listing.specs.Print.{digits, printRestriction, printLine, printLines, printWord, printListing}
-use Rattle.sets.specs.Cells.{cells, cellsAll, restrictionCells, part}
+use Rattle.sets.specs.twins.Copying.{part}
+use Rattle.sets.specs.Cells.{cells, cellsAll, restrictionCells}
 use Rattle.sets.proofs.CellLaws.{cells-nodes, cellsAll-nodes}
-use Rattle.answers.specs.declared.heading.Ending.{Ending}
+use Rattle.answers.specs.declared.list.Word.{Word as FirstWord}
 use Rattle.lines.specs.LineCells.{lineCells, linesCells}
-use Rattle.writer.specs.LineText.{bindingsText, nonEqualityText, restrictionText, classEnd, lineEnd, lineText, linesText}
-use Rattle.print.specs.ListingText.{endingWord, firstText, listingText}
+use Rattle.writer.specs.twins.LineText.{bindingsText, nonEqualityText, restrictionText, classEnd, lineEnd, lineText, linesText}
+use Rattle.print.specs.twins.ListingText.{walkWord, firstText, listingText}
 use Rattle.print.proofs.TreeLaws.{leaf-atomic}
 use Rattle.print.proofs.BindingLaws.{pairCells, instance-fits, bindings-printed}
 
@@ -109,7 +110,7 @@ module _ (ns : List Word) (name : ℕ → List ℕ) (named : (z : ℕ) → name 
         (ap (linesText name vars (length Ls) (i + 1)) behind ∙ lines-printed Ls (i + 1) (suc k) rest n (is .1))
 
     -- what the entry prints of a walk's answer
-    pub listing-printed : (w : Walked) (word : Ending) (rest : List ℕ) → endingWord word ≡ wordOf w → All (λ L. InstanceOf j (L .class)) (linesOf w) →
+    pub listing-printed : (w : Walked) (word : FirstWord) (rest : List ℕ) → walkWord word ≡ wordOf w → All (λ L. InstanceOf j (L .class)) (linesOf w) →
         listingText name vars word (length (linesOf w)) (countOf w) (linesCells (linesOf w) ++ rest) ≡ printListing ns (j .con) w
     unfolding listingText firstText printListing
     listing-printed w word rest e is =

@@ -4,13 +4,13 @@ use mathlib.Core.Path.{_≡_, refl, ap, ap₂, _∙_}
 use mathlib.Core.Bool.{false}
 use mathlib.Core.List.{List}
 use lib.ListN.{length, replicate}
-use Rattle.reading.specs.BothCells.{BothAnswer, bothOver}
+use Rattle.reading.specs.twins.BothCells.{BothAnswer, bothOver}
 use Rattle.reading.specs.declared.both.Both.{Both}
-use Rattle.answers.specs.declared.heading.Ending.{Ending}
+use Rattle.answers.specs.declared.list.Word.{Word}
 use Rattle.answers.specs.Headings.{headingOf}
 use Rattle.answers.specs.declared.list.Answer.{Answer}
-use Rattle.window.specs.Sink.{windowed, Printed}
-use Rattle.print.specs.ListedText.{TermsLeft, jobTerms, termsListing, readListing, namedListing, headedText, SaidOut}
+use Rattle.window.specs.Windows.{windowed, Printed}
+use Rattle.print.specs.twins.ListedText.{TermsLeft, jobTerms, termsListing, readListing, namedListing, headedText, SaidOut}
 
 -- what is written of one text is what is written of an equal one
 pub same-text : (n from : ℕ) {text text2 : List ℕ} {r : ℕ} {out : List ℕ} → text ≡ text2 → (r ≡ min n (length text - from)) × (out ≡ windowed n from text) → (r ≡ min n (length text2 - from)) × (out ≡ windowed n from text2)
@@ -29,7 +29,7 @@ pub said-read : (w : BothAnswer) {size : ℕ} {program job : List ℕ} {both : B
 said-read w {size} {program} {job} {cells = cells} {answer = answer} b m n s t o =
     same-text size 0 (ap₂ (λ (x : List ℕ) (u : TermsLeft). headedText (termsListing program job x u cells) (headingOf answer)) s (terms-are w b m n t)) (o .printed)
 
-pub named-read : (program job cells : List ℕ) (word : Ending) (lines count : ℕ) {both : Both} {jmarks jnums symbols : List ℕ} {t : TermsLeft} → let j = bothOver false program job (replicate 8194 0) .job in
+pub named-read : (program job cells : List ℕ) (word : Word) (lines count : ℕ) {both : Both} {jmarks jnums symbols : List ℕ} {t : TermsLeft} → let j = bothOver false program job (replicate 8194 0) .job in
     both ≡ j .placed .texts → jmarks ≡ j .jmarks → jnums ≡ j .jnums → symbols ≡ j .symbols → t ≡ jobTerms both jmarks jnums (replicate 4097 0) →
     termsListing program job symbols t cells word lines count ≡ namedListing program job cells word lines count
 unfolding namedListing

@@ -16,11 +16,11 @@ use Rattle.language.specs.Words.{Word, begins}
 use Rattle.language.specs.Tokens.{Piece, cut, symbol, ename, aname, evariable, avariable, plain, sameKind, isAmong, firsts, isSymbol, symbolsOf}
 use Rattle.language.specs.Reading.{symbolNames}
 use Rattle.language.specs.Source.{SJob}
-use Rattle.lexer.specs.Table.{wordIn}
-use Rattle.lexer.specs.Lexed.{State}
+use Rattle.lexer.specs.twins.Table.{wordIn}
+use Rattle.lexer.specs.twins.Lexed.{State}
 use Rattle.lexer.proofs.TableMeaning.{Holds}
 use Rattle.syntax.proofs.JobRead.{JobStored}
-use Rattle.window.specs.TreeText.{symbolText}
+use Rattle.window.specs.twins.TreeText.{symbolText}
 
 -- a symbol begins with its quote
 abbrev Quoted : Word → Type 0

@@ -14,8 +14,8 @@ use Rattle.listing.specs.Text.{printRan}
 use Rattle.sets.specs.Cells.{cells}
 use Rattle.writer.specs.declared.outcome.Outcome.{Outcome}
 use Rattle.writer.specs.declared.outcome.Outcome.the-variants.{Value as ValueOf, Over, NotWithin}
-use Rattle.window.specs.TreeText.{treeText}
-use Rattle.writer.specs.OutcomeText.{valueText, outcomeText}
+use Rattle.window.specs.twins.TreeText.{treeText}
+use Rattle.writer.specs.twins.OutcomeText.{valueText, outcomeText}
 use Rattle.print.proofs.TreeLaws.{tree-printed}
 
 -- a value in cells: how many there are, and what a run's outcome is

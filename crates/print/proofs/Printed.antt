@@ -1,12 +1,12 @@
 -- What the entries leave, printed, is the text of the definitions.
-use Prim.Native.Nat.{ℕ, _+_, _-_, _*_, _≤_}
-use mathlib.Core.Path.{_≡_, refl, ap, _∙_, sym as inv}
+use Prim.Native.Nat.{ℕ, _+_, _-_, _*_, _≤_, min}
+use mathlib.Core.Path.{_≡_, refl, ap, ap₂, _∙_, sym as inv}
 use mathlib.Core.Bool.{true, false}
 use mathlib.Core.List.{List, [], _++_, append-assoc}
 use native.Mathlib.Omega.{arith}
 use lib.ListN.{length, take, drop, replicate, length-append}
 use lib.Seq.{sets, length-sets, take-at}
-use Rattle.expressions.specs.Expression.{Value, atom, cons, nodes}
+use Rattle.expressions.specs.Expression.{Value}
 use Rattle.expressions.specs.Class.{IOClass}
 use Rattle.sets.specs.Cells.{cells, cellsAll, restrictionCells}
 use Rattle.sets.proofs.CellLaws.{cells-nodes, cellsAll-nodes, restrictionCells-nodes}
@@ -16,7 +16,7 @@ use Rattle.language.specs.Source.{SProg, SJob, class}
 use Rattle.language.specs.JobCheck.{lister, runner}
 use Rattle.language.specs.Reading.{accepted, rejected, reading}
 use Rattle.language.proofs.Numbers.{accepted-numbers}
-use Rattle.lexer.specs.Lexed.{State}
+use Rattle.lexer.specs.twins.Lexed.{State}
 use Rattle.syntax.proofs.ProgramRead.{ProgramStored}
 use Rattle.syntax.proofs.JobRead.{JobStored}
 use Rattle.semantics.specs.Embedding.{embed}
@@ -27,11 +27,12 @@ use Rattle.semantics.specs.Answer.{answered, walked, ran, Listed, list, run}
 use Rattle.semantics.proofs.AcceptedTexts.{run-answer, list-answer}
 use Rattle.listing.specs.Text.{printRefusal, printRefusalOfNeither, listText, runText}
 use Rattle.lent.specs.Storage.{zeros}
-use Rattle.reading.specs.BothCells.{BothAnswer, bothOver}
+use Rattle.reading.specs.twins.BothCells.{BothAnswer, bothOver}
 use Rattle.reading.proofs.BothRead.{zeros-length, leaving, refusedTexts, taken, texts-by-reading}
 use Rattle.heap.proofs.HeapLaws.{sets-cells}
-use Rattle.runs.specs.Runs.{cellsAt}
+use Rattle.runs.specs.twins.Runs.{cellsAt}
 use Rattle.runs.proofs.RunLaws.{below-self, below-sets, cells-below, run-drop, sets-append}
+use Rattle.initial.proofs.EmbedLaws.{embed-nodes}
 use Rattle.initial.proofs.JobLaws.{jobHeap, job-laid}
 use Rattle.initial.proofs.BeginTexts.{accepted-sides, job-here, job-short}
 use Rattle.lines.specs.LineCells.{linesCells}
@@ -41,16 +42,17 @@ use Rattle.answers.specs.declared.list.Answer.{Answer}
 use Rattle.answers.specs.Headings.{headingOf}
 use Rattle.answers.specs.declared.run.Answer.{Answer as RunAnswer}
 use Rattle.answers.specs.declared.run.Answer.the-variants.{Value as ValueOf, Over as OverOf, NotWithin as NotWithinOf, Program as RunProgram, Job as RunJob, Short as RunShort}
-use Rattle.answers.specs.declared.heading.Ending.{Ending}
-use Rattle.answers.specs.declared.heading.Ending.the-variants.{Whole as WholeWord, Cut as CutWord, Stop21 as Word21, Stop22 as Word22, Stop23 as Word23}
+use Rattle.answers.specs.declared.list.Word.{Word as FirstWord}
+use Rattle.answers.specs.declared.list.Word.the-variants.{Whole as WholeWord, Cut as CutWord, Stop21 as Word21, Stop22 as Word22, Stop23 as Word23}
 use Rattle.writer.specs.declared.outcome.Outcome.{Outcome}
 use Rattle.writer.specs.declared.outcome.Outcome.the-variants.{Value as ValueOut, Over, NotWithin}
-use Rattle.window.specs.TreeText.{symbolText}
-use Rattle.print.specs.Names.{foundIn, textNames}
-use Rattle.print.specs.ListingText.{endingWord}
-use Rattle.writer.specs.OutcomeText.{outcomeText}
-use Rattle.print.specs.RanText.{namedText, ranText}
-use Rattle.print.specs.ListedText.{readListing, namedListing, headedText, listedText}
+use Rattle.window.specs.twins.TreeText.{symbolText}
+use Rattle.window.specs.Windows.{windowed, Printed}
+use Rattle.print.specs.twins.Names.{foundIn, textNames}
+use Rattle.print.specs.twins.ListingText.{walkWord}
+use Rattle.writer.specs.twins.OutcomeText.{outcomeText}
+use Rattle.print.specs.twins.RanText.{namedText, ranText}
+use Rattle.print.specs.twins.ListedText.{readListing, namedListing, headedText, listedText}
 use Rattle.print.proofs.OutcomeLaws.{answerOf as cellsOf, outcomeOf}
 use Rattle.print.proofs.PrintedTexts.{listing-text, outcome-text, list-refusal-text, run-refusal-text}
 
@@ -78,10 +80,6 @@ laid-front P h room =
     let C = restrictionCells (P .neqs) in
     ap (λ (k : ℕ). take k (jobHeap P h)) (inv (length-append A B)) ∙ ap (λ (w : List ℕ). take (length (A ++ B)) (sets h 0 w)) (inv (append-assoc A B C)) ∙ front-kept (A ++ B) C h (omega (arith, length-append A B))
 
-embed-nodes : (v : Value) → nodes (embed v) ≡ nodesValue v
-embed-nodes (atom z) = refl
-embed-nodes (cons u v) = omega (arith, embed-nodes u, embed-nodes v)
-
 module _ (program job : List ℕ) where
   -- The listing, by what is read of the texts.
   abbrev listedBy : BothAnswer → List ℕ → Answer → List ℕ
@@ -92,7 +90,7 @@ module _ (program job : List ℕ) where
   listed-is d a = refl
 
   module _ (p : SProg) (j : SJob) (e : reading lister program job ≡ accepted p j) (s : State) (u : State) (g : JobStored program job (symbolsOf [] program) u j) (room : 2048 ≤ length (u .symbols)) (x rest : List ℕ) where
-    named-text : (word : Ending) → endingWord word ≡ wordOf (walked p j) →
+    named-text : (word : FirstWord) → walkWord word ≡ wordOf (walked p j) →
         readListing program job (taken s u j x) (linesCells (linesOf (walked p j)) ++ rest) word (length (linesOf (walked p j))) (countOf (walked p j)) ≡ listText program job
     named-text word f =
         let numbers = accepted-numbers lister program job p j e .job in
@@ -197,3 +195,15 @@ module _ (program job : List ℕ) where
     run-printed long =
         rw long (ran-is (runs.cellsAfter (run program job) d) (runs.answerOf (run program job)) ∙ texts-by-reading true program job (replicate 8194 0) wide
         (λ w. ranBy w (runs.cellsAfter (run program job) d) (runs.answerOf (run program job))) (λ r. runText program job) (λ t r e marks nums ends heads jmarks jnums symbols. run-refused t r e _) run-accepted)
+
+  -- what the prints promise: a part of the text of any cells, which is that of the two texts where the cells are those that the entry left
+  module _ (n from : ℕ) (c : List ℕ) {r : ℕ} {out : List ℕ} where
+    pub list-promised : (a : Answer) → Printed n from (listedText program job c a) r out →
+        (let text = listedText program job c a in (r ≡ min n (length text - from)) × (out ≡ windowed n from text))
+        × ((work d : List ℕ) → tooShort work d ≡ false → c ≡ listLeft program job work d .cells → a ≡ listLeft program job work d .answer → listedText program job c a ≡ listText program job)
+    list-promised a h = ((h .0, h .1), λ work d long e f. ap₂ (λ (x : List ℕ) (z : Answer). listedText program job x z) e f ∙ list-printed work d long)
+
+    pub run-promised : (a : RunAnswer) → Printed n from (ranText program job c a) r out →
+        (let text = ranText program job c a in (r ≡ min n (length text - from)) × (out ≡ windowed n from text))
+        × ((work d : List ℕ) → runs.tooShort work d ≡ false → c ≡ runs.runLeft program job work d .cells → a ≡ runs.runLeft program job work d .answer → ranText program job c a ≡ runText program job)
+    run-promised a h = ((h .0, h .1), λ work d long e f. ap₂ (λ (x : List ℕ) (z : RunAnswer). ranText program job x z) e f ∙ run-printed work d long)

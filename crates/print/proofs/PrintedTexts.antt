@@ -13,13 +13,13 @@ use Rattle.semantics.specs.Answer.{answerOf, walked, ran, Listed, list, run}
 use Rattle.semantics.proofs.AcceptedTexts.{run-answer, list-answer, listed-instances}
 use Rattle.listing.specs.Print.{printListing}
 use Rattle.listing.specs.Text.{letterOf, printRefusal, printAnswer, printRan, listText, runText}
-use Rattle.lexer.specs.Lexed.{State}
+use Rattle.lexer.specs.twins.Lexed.{State}
 use Rattle.syntax.proofs.JobRead.{JobStored}
-use Rattle.answers.specs.declared.heading.Ending.{Ending}
+use Rattle.answers.specs.declared.list.Word.{Word}
 use Rattle.lines.specs.LineCells.{linesCells}
-use Rattle.window.specs.TreeText.{symbolText}
-use Rattle.print.specs.ListingText.{endingWord, listingText}
-use Rattle.writer.specs.OutcomeText.{outcomeText}
+use Rattle.window.specs.twins.TreeText.{symbolText}
+use Rattle.print.specs.twins.ListingText.{walkWord, listingText}
+use Rattle.writer.specs.twins.OutcomeText.{outcomeText}
 use Rattle.print.proofs.BindingLaws.{pairCells}
 use Rattle.print.proofs.LineLaws.{listing-printed}
 use Rattle.print.proofs.OutcomeLaws.{answerOf as cellsOf, outcomeOf, outcome-printed}
@@ -30,7 +30,7 @@ module _ (p j : List ℕ) (s : SProg) (t : SJob) (u : State) (held : JobStored p
   abbrev name : ℕ → List ℕ
   name = symbolText p j (take (2 * u .found) (u .symbols))
 
-  pub listing-text : reading lister p j ≡ accepted s t → (word : Ending) → endingWord word ≡ wordOf (walked s t) → (rest : List ℕ) →
+  pub listing-text : reading lister p j ≡ accepted s t → (word : Word) → walkWord word ≡ wordOf (walked s t) → (rest : List ℕ) →
       listingText name (pairCells (class t .con)) word (length (linesOf (walked s t))) (countOf (walked s t)) (linesCells (linesOf (walked s t)) ++ rest) ≡ listText p j
   unfolding listText
   listing-text e word w rest =

@@ -9,7 +9,8 @@ use borrow.Author.Tests.{ne-eqb, eqb-true}
 use Rattle.expressions.specs.Expression.{sym, avar, Exp, atm, evar, pair}
 use Rattle.expressions.proofs.Tests.{eqb-sym}
 use Rattle.listing.specs.Bindings.{same, Binding, isBound, addBinding}
-use Rattle.sets.specs.Cells.{pairCode, evarCode, avarCode, anyCell}
+use Rattle.sets.specs.twins.Copying.{anyCell}
+use Rattle.sets.specs.Cells.{pairCode, evarCode, avarCode}
 use Rattle.sets.proofs.CellLaws.{atomic-not-evar, code-test}
 use Rattle.print.proofs.TreeLaws.{firstCell}
 

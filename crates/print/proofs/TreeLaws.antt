@@ -13,7 +13,7 @@ use Rattle.language.specs.Words.{Word}
 use Rattle.listing.specs.Print.{printAtomic, print}
 use Rattle.sets.specs.Cells.{pairCode, evarCode, atomicCode, cells}
 use Rattle.sets.proofs.CellLaws.{atomic-not-pair, cells-nodes, Stands, stands-end, head-stands, tail-stands}
-use Rattle.window.specs.TreeText.{leafText, closings, behindLeaf, nodeText, treeFrom, treeText}
+use Rattle.window.specs.twins.TreeText.{leafText, closings, behindLeaf, nodeText, treeFrom, treeText}
 use Rattle.window.proofs.TreeTurns.{closings-end, closings-leaf, closings-waits, closings-ends, closings-joins}
 
 -- the first cell of a tree

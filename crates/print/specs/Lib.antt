@@ -1,4 +1,1 @@
-pub mod ListingText
-pub mod Names
-pub mod RanText
-pub mod ListedText
+pub mod twins

@@ -15,16 +15,17 @@ ghost use lib.ListN.{length};
 ghost use Rattle.language.specs.Source.{SProg, SJob, prog, class};
 ghost use Rattle.language.specs.JobCheck.{lister};
 ghost use Rattle.language.specs.Reading.{accepted, reading};
-ghost use Rattle.resolve.specs.ListAnswer.{listLeft};
-ghost use Rattle.resolve.specs.ListDemand.{Ended, StoredListing};
-ghost use Rattle.resolve.specs.ListCells.{ListOut, listTexts};
-ghost use Rattle.window.specs.Sink.{windowed, Printed};
-ghost use Rattle.listing.specs.Text.{printRefusal};
-ghost use Rattle.reading.specs.BothCells.{bothOver};
+ghost use Rattle.semantics.specs.Answer.{limits};
+ghost use Rattle.resolve.specs.ListAnswer.{tooShort, listLeft};
+ghost use Rattle.resolve.specs.ListDemand.{Answered, StoredListing};
+ghost use Rattle.resolve.specs.twins.ListCells.{ListOut, listTexts};
+ghost use Rattle.window.specs.Windows.{windowed, Printed};
+ghost use Rattle.listing.specs.Text.{printRefusal, listText};
+ghost use Rattle.reading.specs.twins.BothCells.{bothOver};
 ghost use Rattle.answers.specs.declared.list.Answer.the-variants.{Short};
 ghost use mathlib.Core.Bool.{false};
 ghost use Rattle.answers.specs.Headings.{headingOf};
-ghost use Rattle.print.specs.ListedText.{termsLeft, readListing, headedText, SaidOut, listedText};
+ghost use Rattle.print.specs.twins.ListedText.{termsLeft, readListing, headedText, SaidOut, listedText};
 
 // What `list` answers, and how many bytes of the lent page are text.
 pub struct Listed {
@@ -118,7 +119,7 @@ fn short(out: &mut [u8]) -> Listed
 }
 
 // `resolve::list`, and in `out` the text that `print_list` prints of what it leaves, from its first byte on, as many bytes as there is room for,
-// then zeros. The texts are read once.
+// then zeros: where the storages are long enough, that of the listing of the two texts. The texts are read once.
 pub fn list_first(
     program: &[u8],
     job: &[u8],
@@ -126,7 +127,7 @@ pub fn list_first(
     answer: &mut [u16],
     out: &mut [u8],
 ) -> Listed
-    ensures { λ r. ⌜ (let w = listLeft (now (program .entry)) (now (job .entry)) (now (work .entry)) (now (answer .entry)) in let text = listedText (now (program .entry)) (now (job .entry)) (w .cells) (w .answer) in ((r .answer ≡ w .answer) × (now (work .exit) ≡ w .work) × (now (answer .exit) ≡ w .cells)) × ((r .bytes ≡ min (length (now (out .entry))) (length text)) × (now (out .exit) ≡ windowed (length (now (out .entry))) 0 text))) × ((s : SProg) (t : SJob) → reading lister (now (program .entry)) (now (job .entry)) ≡ accepted s t → Ended (r .answer) → StoredListing (prog s) (class t) (t .steps .num) (r .answer) (now (answer .exit))) ⌝ }
+    ensures { λ r. ⌜ (let w = listLeft (now (program .entry)) (now (job .entry)) (now (work .entry)) (now (answer .entry)) in let text = listedText (now (program .entry)) (now (job .entry)) (w .cells) (w .answer) in ((r .answer ≡ w .answer) × (now (work .exit) ≡ w .work) × (now (answer .exit) ≡ w .cells)) × ((r .bytes ≡ min (length (now (out .entry))) (length text)) × (now (out .exit) ≡ windowed (length (now (out .entry))) 0 text))) × (tooShort (now (work .entry)) (now (answer .entry)) ≡ false → (let w = listLeft (now (program .entry)) (now (job .entry)) (now (work .entry)) (now (answer .entry)) in listedText (now (program .entry)) (now (job .entry)) (w .cells) (w .answer) ≡ listText (now (program .entry)) (now (job .entry)))) × ((s : SProg) (t : SJob) → reading lister (now (program .entry)) (now (job .entry)) ≡ accepted s t → Answered (r .answer) → StoredListing (prog s) (class t) (t .steps .num) (limits t) (r .answer) (now (answer .exit))) ⌝ }
 {
     if work.len() < list::WORK {
         return short(out);

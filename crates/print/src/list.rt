@@ -1,9 +1,9 @@
 // The text of a listing, from the two texts and from what `resolve::list` answered and left.
-use answers::heading::Ending;
 use answers::heading::FirstLine;
 use answers::heading::Heading;
 use answers::heading::heading_of;
 use answers::list::Answer;
+use answers::list::Word;
 use layout::job::Laid;
 use layout::job::lay_job;
 use reading::both::Both;
@@ -15,29 +15,34 @@ use writer::line::put_lines;
 use writer::line::put_numbers;
 use writer::refusal::print_refusal;
 ghost use mathlib.Core.Path.{_≡_};
-ghost use Prim.Native.Nat.{_-_, min};
+ghost use mathlib.Core.Bool.{false};
+ghost use mathlib.Core.List.{List};
+ghost use Prim.Native.Nat.{ℕ, _-_, min};
 ghost use lib.ListN.{length};
-ghost use Rattle.window.specs.Sink.{Wrote, windowed};
-ghost use Rattle.print.specs.ListingText.{endingText, firstText};
-ghost use Rattle.print.specs.ListedText.{termsLeft, jobTerms, termsListing, namedListing, listedText};
+ghost use Rattle.listing.specs.Text.{listText};
+ghost use Rattle.resolve.specs.ListAnswer.{tooShort, listLeft};
+ghost use Rattle.window.specs.Windows.{windowed};
+ghost use Rattle.window.specs.twins.Sink.{Wrote};
+ghost use Rattle.print.specs.twins.ListingText.{wordText, firstText};
+ghost use Rattle.print.specs.twins.ListedText.{termsLeft, jobTerms, termsListing, namedListing, listedText};
 
-fn put_ending(out: &mut [u8], place: Place, word: Ending) -> Place
-    ensures { λ r. ⌜ Wrote place (now (out .entry)) (endingText word) r (now (out .exit)) ⌝ }
+fn put_word(out: &mut [u8], place: Place, word: Word) -> Place
+    ensures { λ r. ⌜ Wrote place (now (out .entry)) (wordText word) r (now (out .exit)) ⌝ }
 {
     match word {
-        Ending::Whole => {
+        Word::Whole => {
             return sink::put_text(out, place, b"whole ");
         }
-        Ending::Cut => {
+        Word::Cut => {
             return sink::put_text(out, place, b"cut ");
         }
-        Ending::Stop21 => {
+        Word::Stop21 => {
             return sink::put_text(out, place, b"stop21 ");
         }
-        Ending::Stop22 => {
+        Word::Stop22 => {
             return sink::put_text(out, place, b"stop22 ");
         }
-        Ending::Stop23 => {
+        Word::Stop23 => {
             return sink::put_text(out, place, b"stop23 ");
         }
     }
@@ -48,7 +53,7 @@ fn put_first(out: &mut [u8], place: Place, first: FirstLine) -> Place
     ensures { λ r. ⌜ Wrote place (now (out .entry)) (firstText (first .word) (first .lines) (first .count)) r (now (out .exit)) ⌝ }
 {
     let word = first.word;
-    let p = put_ending(out, place, word);
+    let p = put_word(out, place, word);
     let q = put_numbers(out, p, first.lines, first.count);
     sink::put_byte(out, q, b'\n')
 }
@@ -175,7 +180,7 @@ fn print_named(
 }
 
 // The bytes of the listing's text from the byte `from` on, as many as `out` has room for, then zeros; how many they are. `cells` is the
-// answer storage that `list` left.
+// answer storage that `list` left: of what it left and answered, the text is that of the listing of the two texts.
 pub fn print_list(
     program: &[u8],
     job: &[u8],
@@ -184,7 +189,7 @@ pub fn print_list(
     from: usize,
     out: &mut [u8],
 ) -> usize
-    ensures { λ r. ⌜ (let text = listedText (now (program .entry)) (now (job .entry)) (now (cells .entry)) answer in (r ≡ min (length (now (out .entry))) (length text - from)) × (now (out .exit) ≡ windowed (length (now (out .entry))) from text)) ⌝ }
+    ensures { λ r. ⌜ (let text = listedText (now (program .entry)) (now (job .entry)) (now (cells .entry)) answer in (r ≡ min (length (now (out .entry))) (length text - from)) × (now (out .exit) ≡ windowed (length (now (out .entry))) from text)) × ((work d : List ℕ) → tooShort work d ≡ false → now (cells .entry) ≡ listLeft (now (program .entry)) (now (job .entry)) work d .cells → answer ≡ listLeft (now (program .entry)) (now (job .entry)) work d .answer → listedText (now (program .entry)) (now (job .entry)) (now (cells .entry)) answer ≡ listText (now (program .entry)) (now (job .entry))) ⌝ }
 {
     let heading = heading_of(answer);
     match heading {

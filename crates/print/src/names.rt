@@ -2,7 +2,7 @@
 use reading::both::Both;
 use reading::both::read_both;
 ghost use mathlib.Core.Path.{_≡_};
-ghost use Rattle.print.specs.Names.{foundIn, textNames};
+ghost use Rattle.print.specs.twins.Names.{foundIn, textNames};
 
 fn found_in(both: Both) -> u16
     ensures { λ r. ⌜ r ≡ foundIn both ⌝ }

@@ -5,10 +5,14 @@ use writer::outcome::Outcome;
 use writer::outcome::print_outcome;
 use writer::refusal::print_refusal;
 ghost use mathlib.Core.Path.{_≡_};
-ghost use Prim.Native.Nat.{_-_, min};
+ghost use mathlib.Core.Bool.{false};
+ghost use mathlib.Core.List.{List};
+ghost use Prim.Native.Nat.{ℕ, _-_, min};
 ghost use lib.ListN.{length};
-ghost use Rattle.window.specs.Sink.{windowed};
-ghost use Rattle.print.specs.RanText.{namedText, ranText};
+ghost use Rattle.listing.specs.Text.{runText};
+ghost use Rattle.resolve.specs.RunAnswer.{tooShort, runLeft};
+ghost use Rattle.window.specs.Windows.{windowed};
+ghost use Rattle.print.specs.twins.RanText.{namedText, ranText};
 
 // An outcome, the symbols by their names in the texts.
 fn print_named(
@@ -27,7 +31,7 @@ fn print_named(
 }
 
 // The bytes of the line from the byte `from` on, as many as `out` has room for, then zeros; how many they are. `cells` is the answer storage
-// that `run` left: `value STEPS EXPR`, `stop21`, `notwithin` or the refusal.
+// that `run` left: `value STEPS EXPR`, `stop21`, `notwithin` or the refusal. Of what it left and answered, the text is that of the run of the two texts.
 pub fn print_run(
     program: &[u8],
     job: &[u8],
@@ -36,7 +40,7 @@ pub fn print_run(
     from: usize,
     out: &mut [u8],
 ) -> usize
-    ensures { λ r. ⌜ (let text = ranText (now (program .entry)) (now (job .entry)) (now (cells .entry)) answer in (r ≡ min (length (now (out .entry))) (length text - from)) × (now (out .exit) ≡ windowed (length (now (out .entry))) from text)) ⌝ }
+    ensures { λ r. ⌜ (let text = ranText (now (program .entry)) (now (job .entry)) (now (cells .entry)) answer in (r ≡ min (length (now (out .entry))) (length text - from)) × (now (out .exit) ≡ windowed (length (now (out .entry))) from text)) × ((work d : List ℕ) → tooShort work d ≡ false → now (cells .entry) ≡ runLeft (now (program .entry)) (now (job .entry)) work d .cells → answer ≡ runLeft (now (program .entry)) (now (job .entry)) work d .answer → ranText (now (program .entry)) (now (job .entry)) (now (cells .entry)) answer ≡ runText (now (program .entry)) (now (job .entry))) ⌝ }
 {
     match answer {
         Answer::Value { steps, length } => {

@@ -16,15 +16,15 @@ use checker::places::ahead;
 use checker::places::key;
 use checker::places::num;
 use checker::places::offset;
-use lexer::keys::CLOSE_LIST;
-use lexer::keys::END;
+use words::keys::CLOSE_LIST;
+use words::keys::END;
 ghost use mathlib.Core.Path.{_≡_};
-ghost use Rattle.checker.specs.CheckAt.{added, noDefs, noNames};
-ghost use Rattle.checker.specs.CheckStored.{paramsAt, paramsEnd, paramsTwice, headTwice, walkedBody, defAt, defsAt, bodyAt, bodiesAt, programAt};
+ghost use Rattle.checker.specs.twins.CheckAt.{added, noDefs, noNames};
+ghost use Rattle.checker.specs.twins.CheckStored.{paramsAt, paramsEnd, paramsTwice, headTwice, walkedBody, defAt, defsAt, bodyAt, bodiesAt, programAt};
 
 // The names of the parameters from `i` on.
 fn params(marks: &[u16], n: usize, room: usize, i: usize) -> Names
-    ensures { λ r. ⌜ r ≡ paramsAt (now (marks .entry)) (now (marks .entry)) (now (marks .entry)) n room noNames i ⌝ }
+    ensures { λ r. ⌜ r ≡ paramsAt (now (marks .entry)) n room noNames i ⌝ }
 {
     let mut cells = [0usize; 144];
     let mut used: usize = 0;
@@ -43,7 +43,7 @@ fn params(marks: &[u16], n: usize, room: usize, i: usize) -> Names
 
 // The index of the bracket that closes them.
 fn params_end(marks: &[u16], n: usize, room: usize, i: usize) -> usize
-    ensures { λ r. ⌜ r ≡ paramsEnd (now (marks .entry)) (now (marks .entry)) (now (marks .entry)) n room i ⌝ }
+    ensures { λ r. ⌜ r ≡ paramsEnd (now (marks .entry)) n room i ⌝ }
 {
     let mut left = room;
     let mut at = i;
@@ -117,7 +117,7 @@ fn head_twice(
     count: usize,
     h: usize,
 ) -> Verdict
-    ensures { λ r. ⌜ r ≡ headTwice (now (nums .entry)) (now (nums .entry)) (now (ats .entry)) n (now (heads .entry)) count h ⌝ }
+    ensures { λ r. ⌜ r ≡ headTwice (now (nums .entry)) (now (ats .entry)) n (now (heads .entry)) count h ⌝ }
 {
     let g = find(nums, n, heads, count, num(nums, n, h));
     judge(count <= g, 6, offset(ats, n, h))

@@ -16,14 +16,14 @@ use checker::places::ahead;
 use checker::places::key;
 use checker::places::num;
 use checker::places::offset;
-use lexer::keys::CALL;
-use lexer::keys::EQA;
-use lexer::keys::IF;
-use lexer::keys::OPEN;
+use words::keys::CALL;
+use words::keys::EQA;
+use words::keys::IF;
+use words::keys::OPEN;
 ghost use mathlib.Core.Path.{_≡_};
 ghost use Prim.Native.Nat.{_-_};
-ghost use Rattle.checker.specs.CheckAt.{names, Kept, Put};
-ghost use Rattle.checker.specs.CheckStored.{placeAt, callAt, termAt, eqaAt, conspAt};
+ghost use Rattle.checker.specs.twins.CheckAt.{names, Kept, Put};
+ghost use Rattle.checker.specs.twins.CheckStored.{placeAt, callAt, termAt, eqaAt, conspAt};
 
 // How many more brackets may be opened, and how many names are in reach.
 pub(crate) struct Reach {
@@ -44,7 +44,7 @@ pub(crate) fn put(cells: &mut [usize; 144], used: usize, x: usize) -> usize
 
 // The number of the function with the name `x`, from number `j` on: `count` where there is none.
 fn place(nums: &[u16], n: usize, heads: &[usize], count: usize, j: usize, x: u16) -> usize
-    ensures { λ r. ⌜ r ≡ placeAt (now (nums .entry)) (now (nums .entry)) (now (nums .entry)) n (now (heads .entry)) (count - j) j x ⌝ }
+    ensures { λ r. ⌜ r ≡ placeAt (now (nums .entry)) n (now (heads .entry)) (count - j) j x ⌝ }
 {
     let mut at = j;
     while at < count {
@@ -59,7 +59,7 @@ fn place(nums: &[u16], n: usize, heads: &[usize], count: usize, j: usize, x: u16
 
 // The number of the function with the name `x`.
 pub(crate) fn find(nums: &[u16], n: usize, heads: &[usize], count: usize, x: u16) -> usize
-    ensures { λ r. ⌜ r ≡ placeAt (now (nums .entry)) (now (nums .entry)) (now (nums .entry)) n (now (heads .entry)) count 0 x ⌝ }
+    ensures { λ r. ⌜ r ≡ placeAt (now (nums .entry)) n (now (heads .entry)) count 0 x ⌝ }
 {
     place(nums, n, heads, count, 0, x)
 }

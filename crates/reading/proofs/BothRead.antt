@@ -11,22 +11,22 @@ use Rattle.language.specs.Tokens.{Text, ofProgram, ofJob, symbolsOf}
 use Rattle.language.specs.Source.{SProg, SJob}
 use Rattle.language.specs.Reader.{Res, ok, refused}
 use Rattle.language.specs.Reading.{readProgram, readJob, Reading, accepted, rejected, withJob, withProgram, reading}
-use Rattle.lexer.specs.Lexed.{State, starting}
+use Rattle.lexer.specs.twins.Lexed.{State, starting}
 use Rattle.lexer.proofs.CutLengths.{SameLengths, cut-lengths}
-use Rattle.checker.specs.StoredAt.{keyAt}
-use Rattle.syntax.specs.PartEnds.{partEnds, jobNumerals}
-use Rattle.checker.specs.CheckAt.{noDefs}
-use Rattle.checker.specs.CheckStored.{defsAt}
-use Rattle.syntax.specs.Heads.{headsFrom}
-use Rattle.syntax.specs.Ends.{endsFrom}
+use Rattle.checker.specs.twins.StoredAt.{keyAt}
+use Rattle.syntax.specs.twins.PartEnds.{partEnds, jobNumerals}
+use Rattle.checker.specs.twins.CheckAt.{noDefs}
+use Rattle.checker.specs.twins.CheckStored.{defsAt}
+use Rattle.syntax.specs.twins.Heads.{headsFrom}
+use Rattle.syntax.specs.twins.Ends.{endsFrom}
 use Rattle.checker.specs.declared.check.Defs.{Defs}
 use Rattle.syntax.specs.declared.job_ends.JobEnds.{JobEnds}
 use Rattle.syntax.proofs.ProgramRead.{ProgramStored}
 use Rattle.syntax.proofs.JobRead.{JobStored}
 use Rattle.syntax.proofs.JobParts.{job-parts, job-ends, job-numerals}
 use Rattle.lent.specs.Storage.{zeros, roomy}
-use Rattle.texts.specs.ReadCells.{toolOf, ReadAnswer, ifRoomy, readAs, programCut, jobCut, programReading, jobCells, jobReading, ProgramLeft}
-use Rattle.reading.specs.BothCells.{placedJob, afterJob, jobBehind, BothAnswer, without, afterProgram, programFirst, bothRoomy, bothRead, bothOver}
+use Rattle.texts.specs.twins.ReadCells.{toolOf, ReadAnswer, ifRoomy, readAs, programCut, jobCut, programReading, jobCells, jobReading, ProgramLeft}
+use Rattle.reading.specs.twins.BothCells.{placedJob, afterJob, jobBehind, BothAnswer, without, afterProgram, programFirst, bothRoomy, bothRead, bothOver}
 use Rattle.reading.specs.declared.both.Both.{Both}
 use Rattle.reading.specs.declared.both.Both.the-variants.{Accepted as Taken, Program, Job, Short}
 use Rattle.reading.proofs.BothTurns.{LeftBy}

@@ -4,16 +4,16 @@ use mathlib.Core.Path.{_≡_, refl, ap, _∙_}
 use mathlib.Core.Bool.{Bool, true, false}
 use mathlib.Core.List.{List}
 use lib.ListN.{replicate}
-use Rattle.checker.specs.StoredAt.{keyAt}
-use Rattle.checker.specs.CheckAt.{noDefs}
-use Rattle.checker.specs.CheckStored.{defsAt}
-use Rattle.syntax.specs.Heads.{headsFrom}
-use Rattle.syntax.specs.Ends.{endsFrom}
-use Rattle.syntax.specs.PartEnds.{partEnds, jobNumerals}
+use Rattle.checker.specs.twins.StoredAt.{keyAt}
+use Rattle.checker.specs.twins.CheckAt.{noDefs}
+use Rattle.checker.specs.twins.CheckStored.{defsAt}
+use Rattle.syntax.specs.twins.Heads.{headsFrom}
+use Rattle.syntax.specs.twins.Ends.{endsFrom}
+use Rattle.syntax.specs.twins.PartEnds.{partEnds, jobNumerals}
 use Rattle.syntax.specs.declared.job_ends.JobEnds.{JobEnds}
 use Rattle.syntax.specs.declared.numerals.Numerals.{Numerals}
-use Rattle.texts.specs.ReadCells.{ReadAnswer, programReading, jobCells}
-use Rattle.reading.specs.BothCells.{PlacedOut, placedJob, JobOut, jobBehind, BothAnswer, BothOut, programFirst, bothRoomy, bothRead}
+use Rattle.texts.specs.twins.ReadCells.{ReadAnswer, programReading, jobCells}
+use Rattle.reading.specs.twins.BothCells.{PlacedOut, placedJob, JobOut, jobBehind, BothAnswer, BothOut, programFirst, bothRoomy, bothRead}
 use Rattle.lent.specs.declared.read.Read.{Read}
 use Rattle.lent.specs.declared.read.Read.the-variants.{Accepted, Refused, Short as ReadShort}
 use Rattle.reading.specs.declared.both.Both.{Both}

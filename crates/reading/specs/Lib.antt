@@ -1,1 +1,1 @@
-pub mod BothCells
+pub mod twins

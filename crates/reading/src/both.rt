@@ -11,7 +11,7 @@ use texts::read_job::read_job;
 use texts::read_program::read_program;
 ghost use mathlib.Core.Path.{_≡_};
 ghost use mathlib.Core.Bool.{Bool};
-ghost use Rattle.reading.specs.BothCells.{PlacedOut, placedJob, JobOut, jobBehind, bothRoomy, BothOut, programFirst, bothRead};
+ghost use Rattle.reading.specs.twins.BothCells.{PlacedOut, placedJob, JobOut, jobBehind, bothRoomy, BothOut, programFirst, bothRead};
 
 // "a program 64 definitions": the least length of `heads`, in cells.
 pub const DEFINITIONS: usize = 64;

@@ -12,19 +12,19 @@ use Rattle.language.specs.Program.{Prog}
 use Rattle.semantics.specs.Configuration.{nodesState, Configuration}
 use Rattle.semantics.specs.Trace.{branches, successors}
 use Rattle.semantics.specs.Tree.{Node, root}
-use Rattle.semantics.specs.Backtrack.{Choice, trailOf, backtrackTo, backtrack}
+use Rattle.semantics.proofs.Backtrack.{Choice, trailOf, backtrackTo, backtrack}
 use Rattle.semantics.proofs.Soundness.{Sound}
 use Rattle.semantics.proofs.Tracing.{Scoped}
 use Rattle.semantics.proofs.Reaching.{Reaches}
 use Rattle.heap.specs.declared.configuration.Configuration.{Configuration as InCells}
 use Rattle.runs.proofs.RunLaws.{Below, below-self}
 use Rattle.heap.proofs.FrameLaws.{held-back}
-use Rattle.saving.specs.Saving.{loaded}
-use Rattle.saving.specs.Records.{Record, recordOf, recordsCells, Holding, Fits}
+use Rattle.saving.specs.twins.Saving.{loaded}
+use Rattle.saving.specs.twins.Records.{Record, recordOf, recordsCells, Holding, Fits}
 use Rattle.saving.specs.declared.head.Node.{Node as Saved}
 use Rattle.saving.proofs.HoldingLaws.{fit-last, load-frame, load-sides}
 use Rattle.saving.proofs.BackLaws.{record-held, record-front}
-use Rattle.linking.specs.Linked.{TermLinked}
+use Rattle.linking.specs.twins.Linked.{TermLinked}
 use Rattle.constants.proofs.ConstantLaws.{Constants, constants-below}
 use Rattle.values.proofs.StateLaws.{trees, HoldsPair, Stands}
 use Rattle.values.proofs.PairLaws.{state-nodes, entries-few}

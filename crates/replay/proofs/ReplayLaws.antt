@@ -14,29 +14,29 @@ use Rattle.language.specs.Program.{Prog}
 use Rattle.semantics.specs.Configuration.{nodesState, Configuration}
 use Rattle.semantics.specs.Trace.{Successors, terminal, called, branches, successors}
 use Rattle.semantics.specs.Tree.{Node, root, afterCall, afterDecision}
-use Rattle.semantics.specs.Backtrack.{Choice, trailOf, backtrack}
+use Rattle.semantics.proofs.Backtrack.{Choice, trailOf, backtrack}
 use Rattle.semantics.proofs.Reaching.{branchOf, Reaches, here, byCall, byDecision, reaches-call, reaches-decision, reaches-steps, reaches-good}
-use Rattle.heap.specs.Moving.{Left}
+use Rattle.heap.specs.twins.Moving.{Left}
 use Rattle.heap.specs.declared.configuration.Configuration.{Configuration as InCells}
 use Rattle.heap.specs.declared.configuration.Moved.the-variants.{On, Over}
 use Rattle.runs.proofs.RunLaws.{Below}
-use Rattle.linking.specs.Code.{linkAt}
-use Rattle.saving.specs.Saving.{SaveLeft, savedTo, LoadLeft, loaded}
-use Rattle.saving.specs.Records.{Record, recordOf, recordCells, recordsCells, Fits, Holding}
+use Rattle.linking.specs.twins.Code.{linkAt}
+use Rattle.saving.specs.twins.Saving.{SaveLeft, savedTo, LoadLeft, loaded}
+use Rattle.saving.specs.twins.Records.{Record, recordOf, recordCells, recordsCells, Fits, Holding}
 use Rattle.saving.proofs.HoldingLaws.{records-one, records-more, records-snoc, load-means, load-holding, fit-last}
 use Rattle.saving.proofs.RecordLaws.{record-length}
 use Rattle.saving.proofs.SavedLaws.{SaveHeld, save-means}
 use Rattle.constants.proofs.ConstantLaws.{Constants}
 use Rattle.values.proofs.StateLaws.{trees, Stands, Arrives, Leads, nodes-length}
 use Rattle.values.proofs.PairLaws.{state-nodes, entries-few}
-use Rattle.tracing.specs.Asking.{askedAt, isCall, takenAs}
+use Rattle.tracing.specs.twins.Asking.{askedAt, isCall, takenAs}
 use Rattle.tracing.proofs.ShowLaws.{Accepted, Looked, Shows, shows}
-use Rattle.trails.specs.TrailCells.{takenAt, pendingAt}
+use Rattle.trails.specs.twins.TrailCells.{takenAt, pendingAt}
 use Rattle.trails.proofs.TrailLaws.{PathHeld, path-at, trail-length}
 use Rattle.trails.proofs.ReachLaws.{Decides, reaches-rest, FirstOf, first-of, none-left, trail-joined}
-use Rattle.replay.specs.Positions.{movedFrom}
-use Rattle.replay.specs.Rooms.{RoomLeft, madeRoom}
-use Rattle.replay.specs.Replaying.{isThere, savedIf, ReplayLeft, replayLeft, steppedTo, followStep, onward, followFrom, keptTop, broughtBack}
+use Rattle.replay.specs.twins.Positions.{movedFrom}
+use Rattle.replay.specs.twins.Rooms.{RoomLeft, madeRoom}
+use Rattle.replay.specs.twins.Replaying.{isThere, savedIf, ReplayLeft, replayLeft, steppedTo, followStep, onward, followFrom, keptTop, broughtBack}
 use Rattle.replay.specs.declared.position.Position.{Position}
 use Rattle.replay.proofs.RecordLaws.{Entered, Recorded, loaded-stands, Rooted, Saves, only, passed, keeps, saves-more, saves-below, saves-constants, saves-first, saves-take, Resumed, from-base, from-choice, resumed-latest}
 use Rattle.replay.proofs.RoomLaws.{Kept, At, room-made}

@@ -12,19 +12,19 @@ use Rattle.expressions.specs.Expression.{nodesAll}
 use Rattle.language.specs.Program.{Prog}
 use Rattle.semantics.specs.Configuration.{nodesState, Configuration}
 use Rattle.semantics.specs.Tree.{Node}
-use Rattle.semantics.specs.Backtrack.{Choice}
-use Rattle.compaction.specs.Compacting.{Compaction, compacted}
+use Rattle.semantics.proofs.Backtrack.{Choice}
+use Rattle.compaction.specs.twins.Compacting.{Compaction, compacted}
 use Rattle.runs.proofs.RunLaws.{Below}
 use Rattle.compaction.proofs.CompactLaws.{Compacted, compact-means}
 use Rattle.heap.specs.declared.configuration.Configuration.{Configuration as InCells}
-use Rattle.saving.specs.Heads.{usedAt}
-use Rattle.saving.specs.Saving.{olderUsed}
-use Rattle.saving.specs.Records.{Record, recordCells, Holding}
+use Rattle.saving.specs.twins.Heads.{usedAt}
+use Rattle.saving.specs.twins.Saving.{olderUsed}
+use Rattle.saving.specs.twins.Records.{Record, recordCells, Holding}
 use Rattle.saving.proofs.HoldingLaws.{used-means}
 use Rattle.saving.proofs.SavedLaws.{OlderHeld, older-means}
 use Rattle.values.proofs.StateLaws.{trees, HoldsPair, Stands, nodes-length}
 use Rattle.values.proofs.PairLaws.{state-nodes}
-use Rattle.replay.specs.Rooms.{isFull, isTight, withUsed, floorTop, RoomLeft, roomLeft, togetherBehind, madeRoom}
+use Rattle.replay.specs.twins.Rooms.{isFull, isTight, withUsed, floorTop, RoomLeft, roomLeft, togetherBehind, madeRoom}
 use Rattle.replay.specs.declared.position.Position.{Position}
 use Rattle.replay.proofs.RecordLaws.{Entered, Saves, saves-more, saves-below, saves-floor, saves-first, saves-take, Older}
 

@@ -1,3 +1,1 @@
-pub mod Positions
-pub mod Rooms
-pub mod Replaying
+pub mod twins

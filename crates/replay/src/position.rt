@@ -1,11 +1,11 @@
 // Where a walk stands.
+use cells::cell;
 use heap::configuration::Configuration;
 use heap::configuration::Moved;
 use saving::head::Node;
-use sets::cell;
 ghost use mathlib.Core.Path.{_≡_};
 ghost use mathlib.Core.Bool.{Bool};
-ghost use Rattle.replay.specs.Positions.{positioned, atDepth, movedFrom, afterStep};
+ghost use Rattle.replay.specs.twins.Positions.{positioned, atDepth, movedFrom, afterStep};
 
 // A node, and the top of the saved configurations.
 pub struct Position {

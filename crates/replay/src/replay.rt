@@ -16,8 +16,8 @@ use trails::trail::taken_at;
 ghost use mathlib.Core.Path.{_≡_};
 ghost use mathlib.Core.Bool.{Bool};
 ghost use Prim.Native.Nat.{_-_};
-ghost use Rattle.saving.specs.Saving.{saveLeft};
-ghost use Rattle.replay.specs.Replaying.{isThere, keptTop, savedIf, replayLeft, followStep, followFrom, broughtBack};
+ghost use Rattle.saving.specs.twins.Saving.{saveLeft};
+ghost use Rattle.replay.specs.twins.Replaying.{isThere, keptTop, savedIf, replayLeft, followStep, followFrom, broughtBack};
 
 // Whether the choice number `last` is to be made here.
 fn is_there(code: &[u16; 24582], n: Node, last: usize) -> bool

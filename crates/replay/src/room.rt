@@ -1,13 +1,13 @@
 // Room for a transition: what is written along a path and no longer in use is given back before the heap is full.
 use crate::position::Position;
 use crate::position::position_at;
+use cells::cell;
 use compaction::compact::compact;
 use heap::configuration::Configuration;
 use saving::head::used_at;
 use saving::saved::older_used;
-use sets::cell;
 ghost use mathlib.Core.Path.{_≡_};
-ghost use Rattle.replay.specs.Rooms.{isFull, isTight, withUsed, floorTop, roomLeft, madeRoom};
+ghost use Rattle.replay.specs.twins.Rooms.{isFull, isTight, withUsed, floorTop, roomLeft, madeRoom};
 
 // A transition or a meeting writes less than the 24,576 cells that are then free.
 fn is_full(used: usize) -> bool

@@ -7,8 +7,8 @@ use Rattle.expressions.specs.Expression.{Exp}
 use Rattle.language.specs.Program.{eqa, consp, Term, call, conditional, result, Param, Prog}
 use Rattle.semantics.specs.Configuration.{Configuration}
 use Rattle.semantics.proofs.Scopes.{WellScoped, scoped-call}
-use Rattle.initial.specs.Beginning.{BegunLeft}
-use Rattle.linking.specs.Linked.{TermLinked}
+use Rattle.initial.specs.twins.Beginning.{BegunLeft}
+use Rattle.linking.specs.twins.Linked.{TermLinked}
 use Rattle.initial.proofs.BeginLaws.{Begins}
 use Rattle.tracing.proofs.ShowLaws.{in-code, end-at, call-at, same-at, test-at}
 

@@ -3,3 +3,6 @@ pub mod BeginPlace
 pub mod ListMeaning
 pub mod ListDemand
 pub mod RunMeaning
+pub mod RunDemand
+pub mod WrongTools
+pub mod AnswerNumbers

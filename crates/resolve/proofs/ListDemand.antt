@@ -1,4 +1,4 @@
--- What `list` answers and leaves meets demand 3.
+-- What `list` answers and leaves meets demands 2 and 3.
 use Prim.Native.Nat.{ℕ, _-_, _≤_, _<_}
 use mathlib.Core.Path.{_≡_, refl, ap, subst, _∙_, sym as inv}
 use mathlib.Core.Bool.{Bool, true, false}
@@ -12,24 +12,17 @@ use Rattle.semantics.specs.Walk.{stop21, stop22, stop23, Walked, Word, whole, c
 use Rattle.semantics.specs.Answer as meaning
 use Rattle.semantics.specs.Answer.{Listed, list}
 use Rattle.semantics.specs.Demand3.{Unstopped}
-use Rattle.semantics.proofs.AcceptedTexts.{list-answer, listed-correct}
+use Rattle.semantics.proofs.AcceptedTexts.{list-answer, listed-correct, listed-traced, listed-never-stuck}
+use Rattle.semantics.proofs.AcceptedStops.{listed-stops, listed-in-order, listed-visits}
 use Rattle.lent.specs.Storage.{zeros}
 use Rattle.lines.specs.LineCells.{linesCells}
-use Rattle.lines.specs.LineReading.{readLines}
 use Rattle.lines.proofs.ReadingLaws.{lines-read}
-use Rattle.resolve.specs.ListAnswer.{ListLeft, worded, answerOf, linesThen, cellsAfter, tooShort, unlessShort, listLeft, linesIn}
-use Rattle.resolve.specs.ListCells.{ListOut, listTexts}
-use Rattle.resolve.specs.ListDemand.{Ended, StoredListing}
+use Rattle.resolve.specs.ListAnswer.{ListLeft, worded, answerOf, linesThen, cellsAfter, tooShort, unlessShort, listLeft}
+use Rattle.resolve.specs.twins.ListCells.{ListOut, listTexts}
+use Rattle.resolve.specs.ListDemand.{Ended, Answered, StoredListing}
 use Rattle.answers.specs.declared.list.Answer.{Answer}
 use Rattle.answers.specs.declared.list.Answer.the-variants.{Short}
 use Rattle.resolve.proofs.ListMeaning.{texts-left}
-
-lines-worded : (w : Word) (l c : ℕ) → linesIn (worded w l c) ≡ l
-lines-worded whole l c = refl
-lines-worded cut l c = refl
-lines-worded (stop stop21) l c = refl
-lines-worded (stop stop22) l c = refl
-lines-worded (stop stop23) l c = refl
 
 ended-word : (w : Word) (l c : ℕ) → Ended (worded w l c) → Unstopped w
 ended-word whole l c e = tt
@@ -45,14 +38,17 @@ module _ (program job work d : List ℕ) (s : SProg) (t : SJob) (e : reading lis
   abbrev said : Answer
   said = worded (wordOf found) (length (linesOf found)) (countOf found)
 
-  stored : Ended said → StoredListing (prog s) (class t) (t .steps .num) said (linesThen (linesOf found) d)
-  stored h = record {
+  stored : StoredListing (prog s) (class t) (t .steps .num) (meaning.limits t) said (linesThen (linesOf found) d)
+  stored = record {
     listing = found;
-    lines =
-        ap (λ (n : ℕ). readLines n (linesThen (linesOf found) d)) (lines-worded (wordOf found) (length (linesOf found)) (countOf found))
-        ∙ lines-read (linesOf found) (replicate (length d - length (linesCells (linesOf found))) 0);
+    lines = lines-read (linesOf found) (replicate (length d - length (linesCells (linesOf found))) 0);
     answer = refl;
-    correct = listed-correct program job s t e (ended-word (wordOf found) (length (linesOf found)) (countOf found) h);
+    neverStuck = listed-never-stuck program job s t e;
+    traced = listed-traced program job s t e;
+    stops = listed-stops program job s t e;
+    inOrder = listed-in-order program job s t e;
+    byTheRules = listed-visits program job s t e;
+    correct = λ h. listed-correct program job s t e (ended-word (wordOf found) (length (linesOf found)) (countOf found) h);
   }
 
   abbrev left : ListLeft
@@ -64,24 +60,24 @@ module _ (program job work d : List ℕ) (s : SProg) (t : SJob) (e : reading lis
   cells-are : left .cells ≡ linesThen (linesOf found) d
   cells-are = ap (λ (a : meaning.Answer Listed). cellsAfter a d) (list-answer program job s t e)
 
-  -- "if program, job and storage are accepted and 01's walk ends as whole or cut"
-  pub list-demand : {r : Answer} {a : List ℕ} → r ≡ listLeft program job work d .answer → a ≡ listLeft program job work d .cells → Ended r → StoredListing (prog s) (class t) (t .steps .num) r a
+  -- "if program, job and storage are accepted"
+  pub list-demand : {r : Answer} {a : List ℕ} → r ≡ listLeft program job work d .answer → a ≡ listLeft program job work d .cells → Answered r → StoredListing (prog s) (class t) (t .steps .num) (meaning.limits t) r a
   unfolding listLeft
   list-demand {r} {a} f g h = pick (tooShort work d) f g
     where
-      pick : (b : Bool) → r ≡ unlessShort b left work d .answer → a ≡ unlessShort b left work d .cells → StoredListing (prog s) (class t) (t .steps .num) r a
-      pick true f g = absurd (subst Ended f h)
+      pick : (b : Bool) → r ≡ unlessShort b left work d .answer → a ≡ unlessShort b left work d .cells → StoredListing (prog s) (class t) (t .steps .num) (meaning.limits t) r a
+      pick true f g = absurd (subst Answered f h)
       pick false f g =
           let i = f ∙ answer-is in
           let j = g ∙ cells-are in
-          subst (λ (x : List ℕ). StoredListing (prog s) (class t) (t .steps .num) r x) (inv j)
-          (subst (λ (x : Answer). StoredListing (prog s) (class t) (t .steps .num) x (linesThen (linesOf found) d)) (inv i) (stored (subst Ended i h)))
+          subst (λ (x : List ℕ). StoredListing (prog s) (class t) (t .steps .num) (meaning.limits t) r x) (inv j)
+          (subst (λ (x : Answer). StoredListing (prog s) (class t) (t .steps .num) (meaning.limits t) x (linesThen (linesOf found) d)) (inv i) stored)
 
 -- what `list` promises of its answer and of the two storages that it leaves
 abbrev pub Promise : List ℕ → List ℕ → List ℕ → List ℕ → Answer → List ℕ → List ℕ → Type 0
 Promise program job work d r x a =
     (let w = listLeft program job work d in (r ≡ w .answer) × (x ≡ w .work) × (a ≡ w .cells))
-    × ((s : SProg) (t : SJob) → reading lister program job ≡ accepted s t → Ended r → StoredListing (prog s) (class t) (t .steps .num) r a)
+    × ((s : SProg) (t : SJob) → reading lister program job ≡ accepted s t → Answered r → StoredListing (prog s) (class t) (t .steps .num) (meaning.limits t) r a)
 
 abbrev pub LeftAs : List ℕ → List ℕ → List ℕ → List ℕ → Answer → List ℕ → List ℕ → Type 0
 LeftAs program job work d r x a = (r ≡ listLeft program job work d .answer) × (x ≡ listLeft program job work d .work) × (a ≡ listLeft program job work d .cells)

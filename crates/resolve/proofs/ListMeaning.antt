@@ -15,7 +15,7 @@ use Rattle.language.specs.Source.{SProg, SJob, prog, class}
 use Rattle.language.specs.JobCheck.{lister}
 use Rattle.language.specs.Reading.{Reading, accepted, rejected, reading}
 use Rattle.language.proofs.Acceptance.{accepted-passed}
-use Rattle.lexer.specs.Lexed.{State}
+use Rattle.lexer.specs.twins.Lexed.{State}
 use Rattle.syntax.specs.declared.job_ends.JobEnds.{JobEnds}
 use Rattle.syntax.specs.declared.numerals.Numerals.{Numerals}
 use Rattle.lent.specs.Storage.{zeros}
@@ -24,18 +24,18 @@ use Rattle.syntax.proofs.JobRead.{JobStored}
 use Rattle.semantics.specs.Configuration.{Configuration, nodesState, start}
 use Rattle.semantics.specs.Tree.{root}
 use Rattle.semantics.specs.Walk.{Limits, stop21, stop22, stop23, Walked, going, stopped, walkFrom, atStart, resolve, whole, cut, wordOf, linesOf, countOf}
-use Rattle.semantics.specs.Backtrack.{onPath, halted, walkBack, walkBackFrom, resolveBack, walkedOf, SameFindings}
+use Rattle.semantics.proofs.Backtrack.{onPath, halted, walkBack, walkBackFrom, resolveBack, walkedOf, SameFindings}
 use Rattle.semantics.specs.Answer as meaning
 use Rattle.semantics.specs.Answer.{Listed, limits, answerOf as meaningOf, list}
 use Rattle.semantics.proofs.Backtracking.{back-findings}
 use Rattle.semantics.proofs.MainCall.{accepted-main}
 use Rattle.language.specs.Program.{Prog}
-use Rattle.linking.specs.Linking.{programLinked, programEnd}
-use Rattle.linking.specs.Linked.{ProgramLinked}
+use Rattle.linking.specs.twins.Linking.{programLinked, programEnd}
+use Rattle.linking.specs.twins.Linked.{ProgramLinked}
 use Rattle.linking.proofs.ProgramLaws.{bodiesOf}
 use Rattle.linking.proofs.Accepted.{accepted-linked, accepted-kept}
 use Rattle.constants.proofs.ConstantLaws.{NoConstants, nought-at, nought-none}
-use Rattle.initial.specs.Beginning.{mainBody, BegunLeft, begunAt}
+use Rattle.initial.specs.twins.Beginning.{mainBody, BegunLeft, begunAt}
 use Rattle.initial.specs.declared.begin.Begun.{Begun}
 use Rattle.initial.specs.declared.begin.Begun.the-variants.{Over as BegunOver}
 use Rattle.initial.proofs.BeginLaws.{inMain, Begins, BeginsAs, start-main}
@@ -44,17 +44,18 @@ use Rattle.tracing.proofs.ShowLaws.{Accepted}
 use Rattle.lines.specs.LineCells.{linesCells, answerRoom}
 use Rattle.lines.proofs.LineLaws.{LinesHeld, no-lines}
 use Rattle.lines.proofs.LineLaws as lines
-use Rattle.turns.specs.Finding.{nothingFound}
-use Rattle.walk.specs.Jobs.{JobLeft, jobLeft, onBegun, walkJob, JobLaid, jobLaid, walkLaid}
+use Rattle.turns.specs.twins.Finding.{nothingFound}
+use Rattle.walk.specs.twins.Jobs.{JobLeft, jobLeft, onBegun, walkJob, JobLaid, jobLaid, walkLaid}
 use Rattle.turns.specs.declared.found.Walked.{Walked as Came}
 use Rattle.walk.proofs.JobLaws.{Leaves, begun-means}
-use Rattle.reading.specs.BothCells.{BothAnswer, bothOver}
+use Rattle.reading.specs.twins.BothCells.{BothAnswer, bothOver}
 use Rattle.resolve.specs.ListAnswer.{ListLeft, worded, answerOf, linesThen, cellsAfter}
-use Rattle.resolve.specs.ListCells.{cameTo, ReadLeft, readLeft, ListOut, listedRead, listBehind, listTexts}
+use Rattle.resolve.specs.twins.ListCells.{cameTo, ReadLeft, readLeft, ListOut, listedRead, listBehind, listTexts}
 use Rattle.reading.specs.declared.both.Both.{Both}
 use Rattle.reading.specs.declared.both.Both.the-variants.{Accepted as Taken}
 use Rattle.answers.specs.declared.list.Answer.{Answer as Outcome}
-use Rattle.answers.specs.declared.list.Answer.the-variants.{Whole, Cut}
+use Rattle.answers.specs.declared.list.Answer.the-variants.{Listed as Said}
+use Rattle.answers.specs.declared.list.Word.the-variants.{Whole, Cut}
 use Rattle.reading.proofs.BothTurns.{LeftBy}
 use Rattle.reading.proofs.BothRead.{zeros-length, endsOf, tableOf, headsOf, partsOf, leaving, refusedTexts, taken, both-are, texts-by-reading}
 use Rattle.resolve.proofs.StartSound.{start-reaches}
@@ -87,7 +88,7 @@ saidOf x d w = leftOf (worded (wordOf w) (length (linesOf w)) (countOf w)) x (li
 leaves-word : (w : Walked) (v : JobLeft) → Leaves w v → cameTo (v .walked) ≡ worded (wordOf w) (length (linesOf w)) (countOf w)
 leaves-word (going r) v h = rw (h .ending, h .cut, h .count, h .lines .count) (pick (r .cut))
   where
-    pick : (b : Bool) → cond b (Cut (length (r .lines)) (r .count)) (Whole (length (r .lines)) (r .count)) ≡ worded (cond b cut whole) (length (r .lines)) (r .count)
+    pick : (b : Bool) → Said (cond b Cut Whole) (length (r .lines)) (r .count) ≡ worded (cond b cut whole) (length (r .lines)) (r .count)
     pick true = refl
     pick false = refl
 leaves-word (stopped stop21 r) v h = rw (h .ending, h .count, h .lines .count) refl

@@ -16,7 +16,7 @@ use Rattle.language.specs.JobCheck.{runner}
 use Rattle.language.specs.WellFormed.{fits}
 use Rattle.language.specs.Reading.{accepted, rejected, reading}
 use Rattle.language.proofs.Acceptance.{accepted-passed}
-use Rattle.lexer.specs.Lexed.{State}
+use Rattle.lexer.specs.twins.Lexed.{State}
 use Rattle.syntax.specs.declared.job_ends.JobEnds.{JobEnds}
 use Rattle.lent.specs.Storage.{zeros}
 use Rattle.syntax.proofs.ProgramRead.{ProgramStored}
@@ -27,12 +27,12 @@ use Rattle.semantics.specs.Runner.{Ran, value, ranOver, notWithin, nodesValue, 
 use Rattle.semantics.specs.Answer as meaning
 use Rattle.semantics.specs.Answer.{answered, inputs, ran, answerOf as meaningOf, run}
 use Rattle.semantics.proofs.Environments.{ground-fits}
-use Rattle.linking.specs.Linking.{programLinked}
-use Rattle.linking.specs.Linked.{ProgramLinked}
+use Rattle.linking.specs.twins.Linking.{programLinked}
+use Rattle.linking.specs.twins.Linked.{ProgramLinked}
 use Rattle.linking.proofs.ProgramLaws.{bodiesOf}
 use Rattle.constants.proofs.ConstantLaws.{NoConstants, nought-at, nought-none}
 use Rattle.linking.proofs.Accepted.{accepted-linked, accepted-kept}
-use Rattle.initial.specs.Beginning.{mainBody, BegunLeft, begunAt}
+use Rattle.initial.specs.twins.Beginning.{mainBody, BegunLeft, begunAt}
 use Rattle.initial.specs.declared.begin.Begun.{Begun}
 use Rattle.initial.specs.declared.begin.Begun.the-variants.{Over as BegunOver}
 use Rattle.initial.proofs.BeginLaws.{Begins}
@@ -40,15 +40,15 @@ use Rattle.initial.proofs.BeginTexts.{params-few}
 use Rattle.initial.proofs.EmbedLaws.{noughts, ones, all-embed}
 use Rattle.initial.proofs.RunBegins.{runMain, RunsAs, accepted-runs}
 use Rattle.tracing.proofs.ShowLaws.{Accepted}
-use Rattle.running.specs.Answers.{RanAnswer, ranAnswer, settled}
-use Rattle.forward.specs.Running.{runBegun, runInputs}
+use Rattle.running.specs.twins.Answers.{RanAnswer, ranAnswer, settled}
+use Rattle.forward.specs.twins.Running.{runBegun, runInputs}
 use Rattle.running.specs.declared.ran.Ran.{Ran as RanCells}
 use Rattle.forward.proofs.RunMeans.{RanMeans, runner-over, run-means}
 use Rattle.resolve.specs.RunAnswer.{RunLeft, answerOf, cellsAfter}
 use Rattle.answers.specs.declared.run.Answer.{Answer as Outcome}
 use Rattle.answers.specs.declared.run.Answer.the-variants.{Value as ValueOf, Over, NotWithin}
-use Rattle.reading.specs.BothCells.{BothAnswer, bothOver}
-use Rattle.resolve.specs.RunCells.{answerRan, RunOut, ranLeft, runBehind, runTexts}
+use Rattle.reading.specs.twins.BothCells.{BothAnswer, bothOver}
+use Rattle.resolve.specs.twins.RunCells.{answerRan, RunOut, ranLeft, runBehind, runTexts}
 use Rattle.reading.specs.declared.both.Both.{Both}
 use Rattle.reading.specs.declared.both.Both.the-variants.{Accepted as Taken}
 use Rattle.reading.proofs.BothTurns.{LeftBy}

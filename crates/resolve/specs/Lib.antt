@@ -1,5 +1,5 @@
 pub mod RunAnswer
-pub mod RunCells
+pub mod RunDemand
 pub mod ListAnswer
-pub mod ListCells
 pub mod ListDemand
+pub mod twins

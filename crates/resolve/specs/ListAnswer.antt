@@ -12,7 +12,9 @@ use Rattle.lent.specs.Storage.{zeros}
 use Rattle.lines.specs.LineCells.{linesCells, answerRoom}
 use Rattle.resolve.specs.RunAnswer.{workCells}
 use Rattle.answers.specs.declared.list.Answer.{Answer}
-use Rattle.answers.specs.declared.list.Answer.the-variants.{Whole, Cut, Stop21, Stop22, Stop23, Program, Job, Short}
+use Rattle.answers.specs.declared.list.Answer.the-variants.{Listed, Program, Job, Short}
+use Rattle.answers.specs.declared.list.Word.{Word as FirstWord}
+use Rattle.answers.specs.declared.list.Word.the-variants.{Whole, Cut, Stop21, Stop22, Stop23}
 
 -- an answer, the working storage and the answer storage
 pub record ListLeft : Type 0 where
@@ -20,13 +22,16 @@ pub record ListLeft : Type 0 where
   pub work : List ℕ
   pub cells : List ℕ
 
+abbrev pub firstWord : Word → FirstWord
+firstWord whole = Whole
+firstWord cut = Cut
+firstWord (stop stop21) = Stop21
+firstWord (stop stop22) = Stop22
+firstWord (stop stop23) = Stop23
+
 -- by the first word of the listing, the number of its lines and of the transitions
 abbrev pub worded : Word → ℕ → ℕ → Answer
-worded whole lines count = Whole lines count
-worded cut lines count = Cut lines count
-worded (stop stop21) lines count = Stop21 lines count
-worded (stop stop22) lines count = Stop22 lines count
-worded (stop stop23) lines count = Stop23 lines count
+worded word lines count = Listed (firstWord word) lines count
 
 abbrev pub answerOf : meaning.Answer meaning.Listed → Answer
 answerOf (meaning.Answer.answered w) = worded (wordOf (w .walked)) (length (linesOf (w .walked))) (countOf (w .walked))
@@ -55,47 +60,3 @@ unlessShort false w work answer = w
 unfoldable pub listLeft : List ℕ → List ℕ → List ℕ → List ℕ → ListLeft
 listLeft program job work answer =
     unlessShort (tooShort work answer) (record { answer = answerOf (meaning.list program job); work = zeros work; cells = cellsAfter (meaning.list program job) answer }) work answer
-
--- 01's number for each case: 1 to 12 of a refused text, 20, 21 to 23; whole and cut have none
-abbrev pub numberOf : Answer → ℕ
-numberOf (Whole lines count) = 0
-numberOf (Cut lines count) = 0
-numberOf (Stop21 lines count) = 21
-numberOf (Stop22 lines count) = 22
-numberOf (Stop23 lines count) = 23
-numberOf (Program number offset) = number
-numberOf (Job number offset) = number
-numberOf Short = 20
-
--- "one that falls on neither text": offset 0
-abbrev pub offsetOf : Answer → ℕ
-offsetOf (Whole lines count) = 0
-offsetOf (Cut lines count) = 0
-offsetOf (Stop21 lines count) = 0
-offsetOf (Stop22 lines count) = 0
-offsetOf (Stop23 lines count) = 0
-offsetOf (Program number offset) = offset
-offsetOf (Job number offset) = offset
-offsetOf Short = 0
-
--- the lines in the answer storage
-abbrev pub linesIn : Answer → ℕ
-linesIn (Whole lines count) = lines
-linesIn (Cut lines count) = lines
-linesIn (Stop21 lines count) = lines
-linesIn (Stop22 lines count) = lines
-linesIn (Stop23 lines count) = lines
-linesIn (Program number offset) = 0
-linesIn (Job number offset) = 0
-linesIn Short = 0
-
--- "It counts each transition of the tree once, and that count is the one reported"
-abbrev pub transitionsOf : Answer → ℕ
-transitionsOf (Whole lines count) = count
-transitionsOf (Cut lines count) = count
-transitionsOf (Stop21 lines count) = count
-transitionsOf (Stop22 lines count) = count
-transitionsOf (Stop23 lines count) = count
-transitionsOf (Program number offset) = 0
-transitionsOf (Job number offset) = 0
-transitionsOf Short = 0

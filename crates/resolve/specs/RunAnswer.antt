@@ -57,38 +57,3 @@ unlessShort false w work answer = w
 unfoldable pub runLeft : List ℕ → List ℕ → List ℕ → List ℕ → RunLeft
 runLeft program job work answer =
     unlessShort (tooShort work answer) (record { answer = answerOf (meaning.run program job); work = zeros work; cells = cellsAfter (meaning.run program job) answer }) work answer
-
--- 01's number for each case: 1 to 12 of a refused text, 20, 21; a value and "not within N" have none
-abbrev pub numberOf : Answer → ℕ
-numberOf (ValueOf s n) = 0
-numberOf Over = 21
-numberOf NotWithin = 0
-numberOf (Program number offset) = number
-numberOf (Job number offset) = number
-numberOf Short = 20
-
--- "one that falls on neither text": offset 0
-abbrev pub offsetOf : Answer → ℕ
-offsetOf (ValueOf s n) = 0
-offsetOf Over = 0
-offsetOf NotWithin = 0
-offsetOf (Program number offset) = offset
-offsetOf (Job number offset) = offset
-offsetOf Short = 0
-
--- "After these two and after every refusal, 20 included, its value has length 0 and its step count is 0."
-abbrev pub stepsOf : Answer → ℕ
-stepsOf (ValueOf s n) = s
-stepsOf Over = 0
-stepsOf NotWithin = 0
-stepsOf (Program number offset) = 0
-stepsOf (Job number offset) = 0
-stepsOf Short = 0
-
-abbrev pub lengthOf : Answer → ℕ
-lengthOf (ValueOf s n) = n
-lengthOf Over = 0
-lengthOf NotWithin = 0
-lengthOf (Program number offset) = 0
-lengthOf (Job number offset) = 0
-lengthOf Short = 0

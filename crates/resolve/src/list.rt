@@ -1,6 +1,7 @@
 // The resolver over two texts (01, "The walk and what stops it"): the lines that the job's inputs and wanted output come to. What it
 // answers and leaves is defined in specs/ListAnswer.antt.
 use answers::list::Answer;
+use answers::list::Word;
 use answers::list::unstopped;
 use initial::begin::main_body;
 use lent::clear::clear;
@@ -15,9 +16,10 @@ ghost use mathlib.Core.Path.{_≡_};
 ghost use Rattle.language.specs.Source.{SProg, SJob, prog, class};
 ghost use Rattle.language.specs.JobCheck.{lister};
 ghost use Rattle.language.specs.Reading.{accepted, reading};
+ghost use Rattle.semantics.specs.Answer.{limits};
 ghost use Rattle.resolve.specs.ListAnswer.{listLeft};
-ghost use Rattle.resolve.specs.ListDemand.{Ended, StoredListing};
-ghost use Rattle.resolve.specs.ListCells.{cameTo, readLeft, listedRead, ListOut, listTexts};
+ghost use Rattle.resolve.specs.ListDemand.{Answered, StoredListing};
+ghost use Rattle.resolve.specs.twins.ListCells.{endedAs, cameTo, readLeft, listedRead, ListOut, listTexts};
 
 // The least lengths of the lent storages, in cells.
 pub const WORK: usize = 8194;
@@ -25,19 +27,28 @@ pub const WORK: usize = 8194;
 pub const ANSWER: usize = 17408;
 
 // Where nothing is untaken the walk isn't stopped; else by what stopped it: 21, 22 or 23.
+fn ended_as(ending: Ending, cut: bool) -> Word
+    ensures { λ r. ⌜ r ≡ endedAs ending cut ⌝ }
+{
+    match ending {
+        Ending::Done => unstopped(cut),
+        Ending::Over => Word::Stop21,
+        Ending::Full => Word::Stop22,
+        Ending::Spent => Word::Stop23,
+    }
+}
+
 fn came_to(w: Walked) -> Answer
     ensures { λ r. ⌜ r ≡ cameTo w ⌝ }
 {
     let ending = w.ending;
     let found = w.found;
     let all = found.lines;
-    let lines = all.count;
-    let count = found.count;
-    match ending {
-        Ending::Done => unstopped(found.cut, lines, count),
-        Ending::Over => Answer::Stop21 { lines, count },
-        Ending::Full => Answer::Stop22 { lines, count },
-        Ending::Spent => Answer::Stop23 { lines, count },
+    let word = ended_as(ending, found.cut);
+    Answer::Listed {
+        word: word,
+        lines: all.count,
+        count: found.count,
     }
 }
 
@@ -113,9 +124,9 @@ fn list_texts(program: &[u8], job: &[u8], work: &mut [u16], answer: &mut [u16]) 
 }
 
 // Walks the program from the job's start by figure 10 of 001. The lines stand in `answer`, zeros behind them; `work` is zero after the
-// call. 20 comes before all else and touches nothing. Where the answer is Whole or Cut, demand 3 holds of the lines read back from `answer`.
+// call. 20 comes before all else and touches nothing. Demands 2 and 3 hold of the lines read back from `answer`.
 pub fn list(program: &[u8], job: &[u8], work: &mut [u16], answer: &mut [u16]) -> Answer
-    ensures { λ r. ⌜ (let w = listLeft (now (program .entry)) (now (job .entry)) (now (work .entry)) (now (answer .entry)) in (r ≡ w .answer) × (now (work .exit) ≡ w .work) × (now (answer .exit) ≡ w .cells)) × ((s : SProg) (t : SJob) → reading lister (now (program .entry)) (now (job .entry)) ≡ accepted s t → Ended r → StoredListing (prog s) (class t) (t .steps .num) r (now (answer .exit))) ⌝ }
+    ensures { λ r. ⌜ (let w = listLeft (now (program .entry)) (now (job .entry)) (now (work .entry)) (now (answer .entry)) in (r ≡ w .answer) × (now (work .exit) ≡ w .work) × (now (answer .exit) ≡ w .cells)) × ((s : SProg) (t : SJob) → reading lister (now (program .entry)) (now (job .entry)) ≡ accepted s t → Answered r → StoredListing (prog s) (class t) (t .steps .num) (limits t) r (now (answer .exit))) ⌝ }
 {
     if work.len() < WORK {
         return Answer::Short;

@@ -8,8 +8,13 @@ use reading::both::Both;
 use reading::both::read_both;
 use running::ran::Ran;
 ghost use mathlib.Core.Path.{_≡_};
+ghost use Rattle.language.specs.Source.{SProg, SJob, prog};
+ghost use Rattle.language.specs.JobCheck.{runner};
+ghost use Rattle.language.specs.Reading.{accepted, reading};
+ghost use Rattle.semantics.specs.Answer.{inputs};
 ghost use Rattle.resolve.specs.RunAnswer.{runLeft};
-ghost use Rattle.resolve.specs.RunCells.{answerRan, RunOut, runTexts};
+ghost use Rattle.resolve.specs.RunDemand.{Answered, StoredRun};
+ghost use Rattle.resolve.specs.twins.RunCells.{answerRan, RunOut, runTexts};
 
 // The least lengths of the lent storages, in cells.
 pub const WORK: usize = 8194;
@@ -71,9 +76,9 @@ fn run_texts(program: &[u8], job: &[u8], work: &mut [u16], answer: &mut [u16]) -
 }
 
 // Evaluates main on the job's inputs by figure 4 of 001, in at most the job's steps. The value's cells stand in `answer`, zeros behind
-// them; `work` is zero after the call. 20 comes before all else and touches nothing.
+// them; `work` is zero after the call. 20 comes before all else and touches nothing. Demand 2 holds of the value read back from `answer`.
 pub fn run(program: &[u8], job: &[u8], work: &mut [u16], answer: &mut [u16]) -> Answer
-    ensures { λ r. ⌜ (let w = runLeft (now (program .entry)) (now (job .entry)) (now (work .entry)) (now (answer .entry)) in (r ≡ w .answer) × (now (work .exit) ≡ w .work) × (now (answer .exit) ≡ w .cells)) ⌝ }
+    ensures { λ r. ⌜ (let w = runLeft (now (program .entry)) (now (job .entry)) (now (work .entry)) (now (answer .entry)) in (r ≡ w .answer) × (now (work .exit) ≡ w .work) × (now (answer .exit) ≡ w .cells)) × ((s : SProg) (t : SJob) → reading runner (now (program .entry)) (now (job .entry)) ≡ accepted s t → Answered r → StoredRun (prog s) (t .steps .num) (inputs t) r (now (answer .exit))) ⌝ }
 {
     if work.len() < WORK {
         return Answer::Short;

@@ -3,7 +3,7 @@ use lent::clear::clear;
 use sets::fill::Filled;
 ghost use mathlib.Core.Path.{_≡_};
 ghost use mathlib.Core.Bool.{Bool};
-ghost use Rattle.running.specs.Answers.{isWithin, ranAnswer, ranBy, settledRan};
+ghost use Rattle.running.specs.twins.Answers.{isWithin, ranAnswer, ranBy, settledRan};
 
 pub enum Ran {
     // The steps, and how many cells the value has.

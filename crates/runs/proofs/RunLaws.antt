@@ -11,16 +11,16 @@ use lib.Dec.{eqb, ltb, leb}
 use lib.ListN.{length, drop, getD, set, length-append}
 use lib.Seq.{sets, drop-cons, getD-set-other}
 use borrow.Author.Tests.{le-leb, lt-leb, lt-ltb, le-ltb, ltb-true, ltb-false, eq-eqb, ne-eqb, eqb-true, eqb-false}
-use Rattle.sets.specs.Cells.{anyCell}
-use Rattle.sets.specs.Fill.{FillAnswer, fillAnswer, spread}
+use Rattle.sets.specs.twins.Copying.{anyCell}
+use Rattle.sets.specs.twins.Fill.{FillAnswer, fillAnswer, spread}
 use Rattle.sets.specs.declared.fill.Filled.{Filled}
 use Rattle.sets.specs.declared.fill.Filled.the-variants.{Done, Over}
 use Rattle.runs.specs.declared.run.Seen.{Seen}
-use Rattle.codes.specs.Codes.{metOf, variableMet, oneIf, renamedCell}
-use Rattle.codes.specs.Outcomes.{unmoved}
+use Rattle.codes.specs.twins.Codes.{metOf, variableMet, oneIf, renamedCell}
+use Rattle.codes.specs.twins.Outcomes.{unmoved}
 use Rattle.codes.specs.declared.outcome.Replaced.{Replaced}
 use Rattle.codes.specs.declared.outcome.Replaced.the-variants.{Over as ReplacedOver}
-use Rattle.runs.specs.Runs.{cellsAt, run, countIn, seenIn, firstIn, lacksNext, passedAt, anyVariable, spreadSize, written, appended, appendedFilled, movedBy, replaceAnswer, movedAnswer, replaced}
+use Rattle.runs.specs.twins.Runs.{cellsAt, run, countIn, seenIn, firstIn, lacksNext, passedAt, anyVariable, spreadSize, written, appended, appendedFilled, movedBy, replaceAnswer, movedAnswer, replaced}
 
 -- two heaps are the same below a place
 pub record Below (used : ℕ) (h g : List ℕ) : Type 0 where

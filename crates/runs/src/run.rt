@@ -1,18 +1,19 @@
 // Runs of the heap. What is made is written at `used` and behind it, so that every range below stays as it is.
+use cells::cell;
 use codes::code::met;
 use codes::code::met_variable;
 use codes::code::one_if;
 use codes::code::renamed;
 use codes::outcome::Replaced;
 use codes::outcome::without;
-use sets::cell;
 use sets::fill::Filled;
+use sets::tree;
 ghost use mathlib.Core.Path.{_≡_};
 ghost use mathlib.Core.List.{_∷_, []};
 ghost use Prim.Native.Nat.{min, _+_, _-_, _*_, _≤_, _<_};
 ghost use lib.Seq.{sets};
-ghost use Rattle.sets.specs.Fill.{fillAnswer, spread};
-ghost use Rattle.runs.specs.Runs.{standsInRun, run, countIn, seenIn, lacksNext, passedAt, firstIn, spreadSize, appended, appendedFilled, movedBy, replaceAnswer, replaced, appendedPair};
+ghost use Rattle.sets.specs.twins.Fill.{fillAnswer, spread};
+ghost use Rattle.runs.specs.twins.Runs.{standsInRun, run, countIn, seenIn, lacksNext, passedAt, firstIn, spreadSize, appended, appendedFilled, movedBy, replaceAnswer, replaced, appendedPair};
 
 // The cells of the heap.
 pub const SIZE: usize = 65535;
@@ -250,7 +251,7 @@ pub fn append_pair(heap: &mut [u16; 65535], head: u16, tail: u16, used: usize) -
     if 65532 < used {
         return Filled::Over;
     }
-    heap[used] = cell::PAIR;
+    heap[used] = tree::PAIR;
     heap[used + 1] = head;
     heap[used + 2] = tail;
     Filled::Done(used + 3)

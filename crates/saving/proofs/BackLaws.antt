@@ -10,8 +10,8 @@ use Rattle.expressions.specs.Restriction.{Restriction}
 use Rattle.sets.proofs.RestrictionLaws.{Front, front-room}
 use Rattle.runs.proofs.RunLaws.{Below, below-self}
 use Rattle.heap.proofs.FrameLaws.{Held, held-front}
-use Rattle.saving.specs.Saving.{loaded}
-use Rattle.saving.specs.Records.{Record, Holding}
+use Rattle.saving.specs.twins.Saving.{loaded}
+use Rattle.saving.specs.twins.Records.{Record, Holding}
 use Rattle.saving.proofs.HoldingLaws.{load-means}
 
 -- cells that stood at the front, at the front again

@@ -5,9 +5,9 @@ use mathlib.Core.List.{List, [], _∷_, _++_, append-assoc, append-nil}
 use native.Mathlib.Omega.{arith}
 use lib.ListN.{length, take, drop, getD, length-append, length-drop, take-append-drop}
 use lib.Seq.{take-suc, split-at, take-all}
-use Rattle.saving.specs.Heads.{usedAt, beginsAt}
-use Rattle.saving.specs.Saving.{sizeOf, stored, loadLeft, loaded}
-use Rattle.saving.specs.Records.{Record, nodeOf, recordOf, recordCells, recordsCells, Fits, AllFit, fitNone, fitMore, Holding}
+use Rattle.saving.specs.twins.Heads.{usedAt, beginsAt}
+use Rattle.saving.specs.twins.Saving.{sizeOf, stored, loadLeft, loaded}
+use Rattle.saving.specs.twins.Records.{Record, nodeOf, recordOf, recordCells, recordsCells, Fits, AllFit, fitNone, fitMore, Holding}
 use Rattle.saving.specs.declared.head.Node.{Node}
 use Rattle.saving.proofs.RecordLaws.{record-length, record-size, store-is, used-is, begins-is, loaded-is}
 

@@ -6,8 +6,8 @@ use mathlib.Core.List.{List}
 use native.Mathlib.Omega.{arith}
 use native.Mathlib.Decide.{decLe}
 use borrow.Author.Tests.{lt-ltb, le-ltb}
-use Rattle.saving.specs.Heads.{beginsAt}
-use Rattle.saving.specs.Saving.{isLow, olderFrom, olderTop}
+use Rattle.saving.specs.twins.Heads.{beginsAt}
+use Rattle.saving.specs.twins.Saving.{isLow, olderFrom, olderTop}
 
 pub begins-below : (s : List ℕ) (t : ℕ) → 0 < t → beginsAt s t < t
 unfolding beginsAt

@@ -5,11 +5,11 @@ use mathlib.Core.List.{List, _++_, append-assoc}
 use native.Mathlib.Omega.{arith}
 use lib.ListN.{length, take, drop, getD, length-append, length-take, length-drop}
 use lib.Seq.{take-at, drop-at, drop-append-add, drop-drop, getD-append-add}
-use Rattle.sets.specs.Cells.{CopyAnswer, copied}
+use Rattle.sets.specs.twins.Copying.{CopyAnswer, copied}
 use Rattle.sets.proofs.CellLaws.{copied-done}
-use Rattle.saving.specs.Heads.{entryCells, sideCells, headCells, headStart, numberAt, nodeAt, usedAt, beginsAt}
-use Rattle.saving.specs.Saving.{sizeOf, stored, loadLeft, loaded}
-use Rattle.saving.specs.Records.{Record, nodeOf, recordOf, numbersOf, recordCells, Fits}
+use Rattle.saving.specs.twins.Heads.{entryCells, sideCells, headCells, headStart, numberAt, nodeAt, usedAt, beginsAt}
+use Rattle.saving.specs.twins.Saving.{sizeOf, stored, loadLeft, loaded}
+use Rattle.saving.specs.twins.Records.{Record, nodeOf, recordOf, numbersOf, recordCells, Fits}
 use Rattle.saving.specs.declared.head.Node.{Node}
 
 -- a block written behind a beginning

@@ -9,9 +9,9 @@ use native.Mathlib.Decide.{decLe}
 use lib.Dec.{leb, ltb}
 use lib.ListN.{length, take}
 use borrow.Author.Tests.{le-leb, lt-leb, leb-true}
-use Rattle.saving.specs.Heads.{usedAt, depthAt, beginsAt}
-use Rattle.saving.specs.Saving.{sizeOf, allowedAt, isLow, olderTop, olderUsed, placeFor, SaveLeft, savedAt, savedTo}
-use Rattle.saving.specs.Records.{Record, recordOf, recordCells, Fits, Holding}
+use Rattle.saving.specs.twins.Heads.{usedAt, depthAt, beginsAt}
+use Rattle.saving.specs.twins.Saving.{sizeOf, allowedAt, isLow, olderTop, olderUsed, placeFor, SaveLeft, savedAt, savedTo}
+use Rattle.saving.specs.twins.Records.{Record, recordOf, recordCells, Fits, Holding}
 use Rattle.saving.specs.declared.head.Node.{Node}
 use Rattle.saving.proofs.OlderTurns.{older-end, older-here, older-turn}
 use Rattle.saving.proofs.HoldingLaws.{topOf, holding-low, holding-all, top-grows, top-begins, holding-take, store-means, records-one}

@@ -1,3 +1,1 @@
-pub mod Heads
-pub mod Saving
-pub mod Records
+pub mod twins

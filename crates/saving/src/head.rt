@@ -1,10 +1,11 @@
 // The numbers of a saved configuration, which stand behind its cells: the steps and the choices that lead to it, and its struct.
+use cells::cell;
 use heap::configuration::Configuration;
 use heap::entry;
-use sets::cell;
+use sets::tree;
 ghost use mathlib.Core.Path.{_≡_};
 ghost use Prim.Native.Nat.{_-_};
-ghost use Rattle.saving.specs.Heads.{entryCells, sideCells, numberAt, headStart, nodeAt, headStored, usedAt, depthAt, beginsAt};
+ghost use Rattle.saving.specs.twins.Heads.{entryCells, sideCells, numberAt, headStart, nodeAt, headStored, usedAt, depthAt, beginsAt};
 
 // The cells of the storage.
 pub const LENGTH: usize = 16384;
@@ -44,14 +45,14 @@ pub(crate) fn head_start(top: usize) -> usize
 fn cell_at(saved: &[u16; 16384], h: usize, k: u16) -> u16
     ensures { λ r. ⌜ r ≡ numberAt (now (saved .entry)) h k ⌝ }
 {
-    cell::cell(saved, cell::least(h, LENGTH) + entry::wide(k))
+    cell::cell(saved, cell::least(h, LENGTH) + cell::wide(k))
 }
 
 // The same as a number.
 fn number(saved: &[u16; 16384], h: usize, k: u16) -> usize
     ensures { λ r. ⌜ r ≡ numberAt (now (saved .entry)) h k ⌝ }
 {
-    entry::wide(cell_at(saved, h, k))
+    cell::wide(cell_at(saved, h, k))
 }
 
 // The node whose numbers stand at h.
@@ -80,17 +81,17 @@ pub(crate) fn store_head(saved: &mut [u16; 16384], n: Node, h: usize)
 {
     let c = n.at;
     let head: [u16; 9] = [
-        entry::narrow(n.steps),
-        entry::narrow(n.depth),
-        entry::narrow(c.inputs),
-        entry::narrow(c.outputs),
-        entry::narrow(c.entries),
-        entry::narrow(c.used),
-        entry::narrow(c.neqs),
-        entry::narrow(c.place),
+        cell::narrow(n.steps),
+        cell::narrow(n.depth),
+        cell::narrow(c.inputs),
+        cell::narrow(c.outputs),
+        cell::narrow(c.entries),
+        cell::narrow(c.used),
+        cell::narrow(c.neqs),
+        cell::narrow(c.place),
         c.counter,
     ];
-    cell::copy(&head, 0, HEAD, saved, h);
+    tree::copy(&head, 0, HEAD, saved, h);
 }
 
 // How much of the heap the configuration has in use whose record ends at `top`.

@@ -3,9 +3,10 @@
 use crate::head;
 use crate::head::LENGTH;
 use crate::head::Node;
-use sets::cell;
+use cells::cell;
+use sets::tree;
 ghost use mathlib.Core.Path.{_≡_};
-ghost use Rattle.saving.specs.Saving.{sizeOf, stored, allowedAt, isLow, olderTop, olderUsed, placeFor, saveLeft, savedTo, loadLeft, loaded};
+ghost use Rattle.saving.specs.twins.Saving.{sizeOf, stored, allowedAt, isLow, olderTop, olderUsed, placeFor, saveLeft, savedTo, loadLeft, loaded};
 
 // Where this storage is full, the records stay that end in its first half.
 const HALF: usize = 8192;
@@ -43,8 +44,8 @@ fn store(frame: &[u16; 12360], q: &[u16; 4096], saved: &mut [u16; 16384], n: Nod
     let e = cell::least(at, LENGTH);
     let s = e + entries;
     let h = s + sides;
-    cell::copy(frame, 0, entries, saved, e);
-    cell::copy(q, 0, sides, saved, s);
+    tree::copy(frame, 0, entries, saved, e);
+    tree::copy(q, 0, sides, saved, s);
     head::store_head(saved, n, h);
 }
 
@@ -135,7 +136,7 @@ pub fn load(saved: &[u16; 16384], top: usize, frame: &mut [u16; 12360], q: &mut 
     let sides = head::side_cells(c.neqs);
     let from = head::begins_at(saved, top);
     let s = cell::less(h, sides);
-    cell::copy(saved, from, entries, frame, 0);
-    cell::copy(saved, s, sides, q, 0);
+    tree::copy(saved, from, entries, frame, 0);
+    tree::copy(saved, s, sides, q, 0);
     Back { node: n, top: from }
 }

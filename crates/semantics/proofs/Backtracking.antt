@@ -12,7 +12,7 @@ use Rattle.semantics.specs.Lists.{All}
 use Rattle.semantics.specs.Configuration.{Configuration, start}
 use Rattle.semantics.specs.Tree.{Node, root}
 use Rattle.semantics.specs.Walk.{Limits, Untaken, Walked, going, stopped, atStart, visit, andThen, taken, takeNext, spent, walk, walkFrom, resolve, stateOf, wordOf, linesOf, countOf}
-use Rattle.semantics.specs.Backtrack.{Choice, trailOf, replay, onPath, withTodo, Turn, ahead, exhausted, halted, enter, orBack, turn, walkBack, walkBackFrom, resolveBack, walkedOf, withoutTodo, SameFindings}
+use Rattle.semantics.proofs.Backtrack.{Choice, trailOf, replay, onPath, withTodo, Turn, ahead, exhausted, halted, enter, orBack, turn, walkBack, walkBackFrom, resolveBack, walkedOf, withoutTodo, SameFindings}
 use Rattle.semantics.proofs.Replay.{replay-from, replay-leads}
 use Rattle.semantics.proofs.Paths.{pathOf, untakenIf, falseBranch, untaken, Replays, machineAt, AtTurn, Turned, first-placed, turn-length, enter-turned, turn-keeps}
 

@@ -28,7 +28,7 @@ atom-is : {σ : ValueEnv} {c : Exp} {z : ℕ} → AtomOf σ c z → (groundAtomi
 atom-is (AtomOf.symbol y) = (refl, refl)
 atom-is (AtomOf.variable x y b) = let e = lookup-binds 0 b in (e, ap atom e)
 
-value-is : {σ : ValueEnv} {c : Exp} {v : Value} → ValueOf σ c v → ground (groundOf σ) c ≡ v
+pub value-is : {σ : ValueEnv} {c : Exp} {v : Value} → ValueOf σ c v → ground (groundOf σ) c ≡ v
 value-is (ValueOf.atomic d z h) = atom-is h .1
 value-is (ValueOf.variable x w b) = lookup-binds (atom 0) b
 value-is (ValueOf.pairs a b u w h k) = ap₂ cons (value-is h) (value-is k)
@@ -38,7 +38,7 @@ arguments-are ArgumentsOf.done = refl
 arguments-are (ArgumentsOf.any x qs d es v ρ h k) = λ i. let r = arguments-are k i in record { evars = (x, value-is h i) ∷ r .evars; avars = r .avars }
 arguments-are (ArgumentsOf.one x qs d es z ρ h k) = λ i. let r = arguments-are k i in record { evars = r .evars; avars = (x, atom-is h .0 i) ∷ r .avars }
 
-step-is : {p : Prog} {σ σ′ : ValueEnv} {t t′ : Term} → Step p σ t t′ σ′ → step p t σ ≡ go t′ σ′
+pub step-is : {p : Prog} {σ σ′ : ValueEnv} {t t′ : Term} → Step p σ t t′ σ′ → step p t σ ≡ go t′ σ′
 unfolding step
 step-is {p} {σ} (calls f ds d τ g a) =
     ap (λ (e : Def). go (e .body) (bindParams (ground (groundOf σ)) (groundAtomic (groundOf σ)) (e .params) ds)) (defines-is _ g) ∙ ap (go (d .body)) (arguments-are a)

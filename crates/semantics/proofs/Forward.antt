@@ -16,7 +16,8 @@ use Rattle.semantics.specs.Figure4.{ValueEnv}
 use Rattle.semantics.specs.Evaluate.{groundOf, Next, end, go, stepPair, step}
 use Rattle.semantics.specs.Configuration.{ExpEnv, substOfEnv, State, state, Configuration}
 use Rattle.semantics.specs.Trace.{Successors, terminal, called, branches, configuration, tracePair, traceAtomic, successorsOf}
-use Rattle.semantics.specs.Embedding.{embed, embedEnv, atState, OneSuccessor, ends, calls, holds, fails}
+use Rattle.semantics.specs.Embedding.{embed}
+use Rattle.semantics.proofs.EmbeddedStates.{embedEnv, atState, OneSuccessor, ends, calls, holds, fails}
 use Rattle.semantics.proofs.Grounding.{lookup-map, update-map}
 use Rattle.semantics.proofs.Tracing.{contract-identity}
 

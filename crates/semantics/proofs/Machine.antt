@@ -50,7 +50,7 @@ branch-found n x b none r w = refl
 branch-found n x b (some c) r w = refl
 
 -- no visit makes a transition, and 23 is no stop of a visit
-abbrev Visited : WalkState → Walked → Type 0
+abbrev pub Visited : WalkState → Walked → Type 0
 Visited r (going q) = q .count ≡ r .count
 Visited r (stopped stop21 q) = q .count ≡ r .count
 Visited r (stopped stop22 q) = q .count ≡ r .count
@@ -78,11 +78,11 @@ module _ (p : Prog) where
   total r = found r (toCome (r .todo))
 
   -- what it will have found when t is walked first
-  abbrev totalWith : Tree → ℕ → WalkState → Listing
+  abbrev pub totalWith : Tree → ℕ → WalkState → Listing
   totalWith t k r = found r (also t k (toCome (r .todo)))
 
   -- w was to be found before a visit
-  abbrev Keeps : Listing → Walked → Type 0
+  abbrev pub Keeps : Listing → Walked → Type 0
   Keeps w (going r) = w ≡ total r
   Keeps w (stopped z r) = Beginning w r
 
@@ -92,7 +92,7 @@ module _ (p : Prog) where
   Finds w (stopped z r) = Beginning w r
 
   -- the tree of a node is never absent: its transition counts
-  edge-to : (n : ℕ) (x : Node) (S : Successors) → edgeTo (treeFrom p n x S) ≡ 1
+  pub edge-to : (n : ℕ) (x : Node) (S : Successors) → edgeTo (treeFrom p n x S) ≡ 1
   unfolding treeFrom
   edge-to zero x (terminal u) = refl
   edge-to zero x (called c) = refl
@@ -109,10 +109,10 @@ module _ (p : Prog) where
   branch-come n x b none r = listing-is refl refl (omega arith)
   branch-come n x b (some c) r = push-come n (afterDecision x b c) (r .todo)
 
-  taken-total : (i : Untaken) (is : List Untaken) (r : WalkState) → totalWith (tree p (i .left) (i .node)) 0 (taken is r) ≡ found r (toCome (i ∷ is))
+  pub taken-total : (i : Untaken) (is : List Untaken) (r : WalkState) → totalWith (tree p (i .left) (i .node)) 0 (taken is r) ≡ found r (toCome (i ∷ is))
   taken-total i is r = listing-is refl refl (omega arith)
 
-  at-start : (t : Tree) → totalWith t 0 atStart ≡ listingOf t
+  pub at-start : (t : Tree) → totalWith t 0 atStart ≡ listingOf t
   at-start t = listing-is (append-nil (leavesLines (leaves t))) (or-false (anyOf (unfinishedNodes t))) (omega arith)
 
   module _ (lim : Limits) where
@@ -147,7 +147,7 @@ module _ (p : Prog) where
         ap (found r) (decision-also s t (toCome (r .todo)) ∙ ap (also s (edgeTo s)) (branch-come n x false b r) ∙ branch-come n x true a q)
         ∙ branch-found n x false b r _ ∙ branch-found n x true a q _
 
-    visit-keeps : (i : Untaken) (r : WalkState) → Keeps (totalWith (tree p (i .left) (i .node)) 0 r) (visit p lim i r)
+    pub visit-keeps : (i : Untaken) (r : WalkState) → Keeps (totalWith (tree p (i .left) (i .node)) 0 r) (visit p lim i r)
     visit-keeps i r = pick (stateOver (i .node .conf .cr))
       where
         pick : (t : Bool) → Keeps (totalWith (tree p (i .left) (i .node)) 0 r) (expandUnless p lim i r t)
@@ -190,7 +190,7 @@ module _ (p : Prog) where
     expand-visited (suc n) x (called c) r = refl
     expand-visited (suc n) x (branches a b) r = branch-count n x true a (pushBranch n x false b r) ∙ branch-count n x false b r
 
-    visit-visited : (i : Untaken) (r : WalkState) → Visited r (visit p lim i r)
+    pub visit-visited : (i : Untaken) (r : WalkState) → Visited r (visit p lim i r)
     visit-visited i r = pick (stateOver (i .node .conf .cr))
       where
         pick : (t : Bool) → Visited r (expandUnless p lim i r t)

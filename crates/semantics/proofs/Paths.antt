@@ -12,7 +12,7 @@ use Rattle.semantics.specs.Configuration.{Configuration}
 use Rattle.semantics.specs.Trace.{Successors, terminal, called, branches, successors}
 use Rattle.semantics.specs.Tree.{Node, afterCall, afterDecision, meetingAt}
 use Rattle.semantics.specs.Walk.{stateOver, meetingOver, Limits, Untaken, Walked, going, stopped, tableFull, withLine, atEnd, expand, expandUnless, visit, taken}
-use Rattle.semantics.specs.Backtrack.{Choice, trailOf, replay, PathState, onPath, withTodo, withPath, Turn, ahead, exhausted, halted, afterEnd, choose, extend, extendUnless, enter, backtrackTo, backtrack, aheadIf, replayPath, orBack, turn}
+use Rattle.semantics.proofs.Backtrack.{Choice, trailOf, replay, PathState, onPath, withTodo, withPath, Turn, ahead, exhausted, halted, afterEnd, choose, extend, extendUnless, enter, backtrackTo, backtrack, aheadIf, replayPath, orBack, turn}
 use Rattle.semantics.proofs.Replay.{Along, replay-none, replay-call, replay-decision, replay-from, replay-leads}
 
 pub trail-length : (cs : List Choice) → length (trailOf cs) ≡ length cs

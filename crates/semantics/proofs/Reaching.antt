@@ -11,7 +11,7 @@ use Rattle.semantics.specs.Configuration.{Configuration}
 use Rattle.semantics.specs.Trace.{called, branches, successors}
 use Rattle.semantics.specs.Tree.{Node, afterCall, afterDecision}
 use Rattle.semantics.specs.Walk.{Untaken}
-use Rattle.semantics.specs.Backtrack.{replay, replayNext}
+use Rattle.semantics.proofs.Backtrack.{replay, replayNext}
 use Rattle.semantics.proofs.Replay.{replay-none, replay-call, replay-decision}
 
 -- the branch that a decision takes

@@ -12,7 +12,7 @@ use Rattle.semantics.specs.Configuration.{Configuration}
 use Rattle.semantics.specs.Trace.{Successors, terminal, called, branches, successors}
 use Rattle.semantics.specs.Tree.{Node, afterCall, afterDecision}
 use Rattle.semantics.specs.Walk.{Untaken}
-use Rattle.semantics.specs.Backtrack.{replayNext, replay}
+use Rattle.semantics.proofs.Backtrack.{replayNext, replay}
 
 -- what the decisions bs lead to from x, with n transitions left there
 pub record Along (n : ℕ) (x : Node) (bs : List Bool) (i : Untaken) : Type 0 where

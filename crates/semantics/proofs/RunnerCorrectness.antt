@@ -25,12 +25,12 @@ Agrees s ranOver o = Unit {0}
 Agrees s notWithin o = o ≡ none
 
 -- a term that is no end
-abbrev Moves : Term → Type 0
+abbrev pub Moves : Term → Type 0
 Moves (call f cs) = Unit {0}
 Moves (conditional k s t) = Unit {0}
 Moves (result c) = ⊥
 
-step-moves : (p : Prog) (t : Term) (σ : ValueEnv) → Moves t → (u : Term) × (τ : ValueEnv) × (step p t σ ≡ go u τ)
+pub step-moves : (p : Prog) (t : Term) (σ : ValueEnv) → Moves t → (u : Term) × (τ : ValueEnv) × (step p t σ ≡ go u τ)
 unfolding step
 step-moves p (call f cs) σ m = (_, _, refl)
 step-moves p (conditional (eqa c d) s t) σ m = pick (eqb (groundAtomic (groundOf σ) (atomOf c)) (groundAtomic (groundOf σ) (atomOf d)))

@@ -143,16 +143,16 @@ self-contradicts a qs = pick (add qs (q ∷ [])) refl
         absurd (append-satisfies (w .0) qs (q ∷ []) (simplify-sound (w .0) (qs ++ (q ∷ [])) out e (w .1)) .1 .0 refl)
 
 -- what holds of an end's output, and of each configuration that a transition leads to
-abbrev IfSome : (Configuration → Type 0) → Option Configuration → Type 0
+abbrev pub IfSome : (Configuration → Type 0) → Option Configuration → Type 0
 IfSome Q none = Unit {0}
 IfSome Q (some d) = Q d
 
-abbrev Each : (Exp → Type 0) → (Option Bool → Configuration → Type 0) → Successors → Type 0
+abbrev pub Each : (Exp → Type 0) → (Option Bool → Configuration → Type 0) → Successors → Type 0
 Each T Q (terminal u) = T u
 Each T Q (called d) = Q none d
 Each T Q (branches a b) = IfSome (Q (some true)) a × IfSome (Q (some false)) b
 
-each-child : (T : Exp → Type 0) (Q : Option Bool → Configuration → Type 0) (S : Successors) (o : Option Bool) (d : Configuration) → Each T Q S → child o S ≡ some d → Q o d
+pub each-child : (T : Exp → Type 0) (Q : Option Bool → Configuration → Type 0) (S : Successors) (o : Option Bool) (d : Configuration) → Each T Q S → child o S ≡ some d → Q o d
 each-child T Q (terminal u) o d h e = absurd (Option·none-ne-some _ e)
 each-child T Q (called c) none d h e = subst (Q none) (Option·some-injective _ _ e) h
 each-child T Q (called c) (some b) d h e = absurd (Option·none-ne-some _ e)

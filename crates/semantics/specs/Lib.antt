@@ -7,9 +7,10 @@ pub mod Figure10
 pub mod Trace
 pub mod Tree
 pub mod Walk
-pub mod Backtrack
 pub mod Runner
 pub mod Answer
 pub mod Demand2
 pub mod Demand3
+pub mod Stops
+pub mod StopOrder
 pub mod Embedding

@@ -12,7 +12,8 @@ use borrow.Author.Tests.{eqb-true, eqb-false, eq-eqb, ne-eqb, le-leb, lt-leb}
 use Rattle.expressions.specs.Expression.{AtomicExp, sym, avar, Exp, atm, evar, pair, nodes, nodesAll}
 use Rattle.expressions.specs.Restriction.{Restriction, nodesRestriction}
 use Rattle.expressions.specs.Intersection.{occurs}
-use Rattle.sets.specs.Cells.{pairCode, evarCode, atomicCode, cells, cellsAll, restrictionCells, part, notCopied, copied, walkTrees, treeEnd, anyCell}
+use Rattle.sets.specs.twins.Copying.{part, notCopied, copied, walkTrees, treeEnd, anyCell}
+use Rattle.sets.specs.Cells.{pairCode, evarCode, atomicCode, cells, cellsAll, restrictionCells}
 
 -- the codes tell the kinds of node apart, and the nodes of a kind
 pub atomic-not-pair : (x : AtomicExp) → atomicCode x ≡ pairCode → ⊥

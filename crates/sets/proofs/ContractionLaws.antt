@@ -9,7 +9,7 @@ use Rattle.expressions.specs.Expression.{AtomicExp, sym, avar, atm, evar}
 use Rattle.expressions.specs.Restriction.{sameAtomic}
 use Rattle.expressions.specs.Contraction.{identity, bindE, bindA, mkBind, equalityContraction}
 use Rattle.sets.specs.Cells.{evarCode, avarCode, symbolCode, atomicCode}
-use Rattle.sets.specs.Contracting.{atomicOf, leafOf, contractionOf, equality}
+use Rattle.sets.specs.twins.Contracting.{atomicOf, leafOf, contractionOf, equality}
 use Rattle.sets.specs.declared.contraction.Contraction.the-variants.{Identity, Contradiction, Bind}
 use Rattle.sets.proofs.CellLaws.{code-test}
 

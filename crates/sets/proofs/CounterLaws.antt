@@ -3,7 +3,7 @@ use Prim.Native.Nat.{ℕ, _≤_, _<_}
 use mathlib.Core.Path.{_≡_, refl}
 use borrow.Author.Tests.{lt-ltb, le-ltb}
 use Rattle.expressions.specs.Split.{takeNumbers}
-use Rattle.sets.specs.Counting.{fresh, handed}
+use Rattle.sets.specs.twins.Counting.{fresh, handed}
 use Rattle.sets.specs.declared.counter.Handed.the-variants.{Numbers, Spent}
 
 pub handed-numbers : (k : ℕ) → k ≤ 16381 → handed k ≡ Numbers (fresh k)

@@ -13,8 +13,9 @@ use borrow.Author.Tests.{ne-eqb, le-ltb, lt-leb, ltb-false, leb-false}
 use Rattle.expressions.specs.Expression.{AtomicExp, sym, avar, Exp, atm, evar, pair, nodes, nodesAll}
 use Rattle.expressions.specs.Substitution.{applyAtomic, apply, applyAll, substE, substA}
 use Rattle.expressions.specs.Restriction.{Restriction, applyNonEquality, nodesRestriction}
-use Rattle.sets.specs.Cells.{pairCode, evarCode, avarCode, atomicCode, cells, cellsAll, restrictionCells, part, treeEnd}
-use Rattle.sets.specs.Fill.{spread, renamed}
+use Rattle.sets.specs.twins.Copying.{part, treeEnd}
+use Rattle.sets.specs.Cells.{pairCode, evarCode, avarCode, atomicCode, cells, cellsAll, restrictionCells}
+use Rattle.sets.specs.twins.Fill.{spread, renamed}
 use Rattle.sets.proofs.CellLaws.{atomic-not-evar, code-test, cells-nodes, cellsAll-nodes, restrictionCells-nodes, Stands, stands-part}
 
 pub spread-append : (x : ℕ) (v s t : List ℕ) → spread x v (s ++ t) ≡ spread x v s ++ spread x v t

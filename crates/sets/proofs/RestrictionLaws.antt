@@ -14,9 +14,10 @@ use borrow.Author.Tests.{lt-leb, leb-true}
 use Rattle.expressions.specs.Expression.{AtomicExp, sym, avar}
 use Rattle.expressions.specs.Substitution.{applyAtomic, substA}
 use Rattle.expressions.specs.Restriction.{NonEquality, Restriction, sameAtomic, sameNonEquality, stands, isSymbol, Kind, contradiction, redundant, kept, kind, keepOrDrop, simplifyAfter, simplify, add, applyNonEquality, substRestriction}
-use Rattle.sets.specs.Cells.{avarCode, atomicCode, restrictionCells, anyCell}
-use Rattle.sets.specs.Fill.{renamed}
-use Rattle.sets.specs.Restricting.{RestrictAnswer, restrictAnswer, eitherOrder, standsCells, kindCells, appendCells, addKind, addCells, simplifyKind, simplifyFrom, simplifyCells, bindCells}
+use Rattle.sets.specs.twins.Copying.{anyCell}
+use Rattle.sets.specs.Cells.{avarCode, atomicCode, restrictionCells}
+use Rattle.sets.specs.twins.Fill.{renamed}
+use Rattle.sets.specs.twins.Restricting.{RestrictAnswer, restrictAnswer, eitherOrder, standsCells, kindCells, appendCells, addKind, addCells, simplifyKind, simplifyFrom, simplifyCells, bindCells}
 use Rattle.sets.specs.declared.restriction.Kind.{Kind as CodedKind}
 use Rattle.sets.specs.declared.restriction.Kind.the-variants.{Contradiction as Contradictory, Redundant, Kept as Keep}
 use Rattle.sets.specs.declared.restriction.Restricted.the-variants.{Kept, Contradiction, Full}

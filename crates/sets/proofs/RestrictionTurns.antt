@@ -10,7 +10,7 @@ use lib.Dec.{eqb}
 use lib.ListN.{length, drop, getD, length-drop}
 use lib.Seq.{drop-cons}
 use borrow.Author.Tests.{eqb-true, eq-eqb, ne-eqb}
-use Rattle.sets.specs.Restricting.{restrictAnswer, eitherOrder, standsCells, kindCells, simplifyKind, simplifyFrom}
+use Rattle.sets.specs.twins.Restricting.{restrictAnswer, eitherOrder, standsCells, kindCells, simplifyKind, simplifyFrom}
 use Rattle.sets.specs.declared.restriction.Restricted.the-variants.{Kept}
 
 -- the two cells of the i-th non-equality, and what is behind them

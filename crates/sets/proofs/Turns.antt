@@ -10,8 +10,8 @@ use lib.Dec.{leb, ltb, eqb}
 use lib.ListN.{length, drop, getD, set, drop-of-length-le}
 use lib.Seq.{drop-cons, take-nil}
 use borrow.Author.Tests.{eq-eqb, ne-eqb, le-leb, lt-leb, lt-ltb, le-ltb, ltb-false, leb-false}
-use Rattle.sets.specs.Cells.{part, onePair, fourPairs, behindFour, walkTrees, anyCell}
-use Rattle.sets.specs.Fill.{renamed}
+use Rattle.sets.specs.twins.Copying.{part, onePair, fourPairs, behindFour, walkTrees, anyCell}
+use Rattle.sets.specs.twins.Fill.{renamed}
 
 -- the part from i on: a cell and the part behind it, or nothing
 pub part-cons : (s : List ℕ) (i to : ℕ) → i < min to (length s) → part i to s ≡ getD s i 0 ∷ part (i + 1) to s

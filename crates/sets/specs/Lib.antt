@@ -1,5 +1,2 @@
 pub mod Cells
-pub mod Fill
-pub mod Counting
-pub mod Contracting
-pub mod Restricting
+pub mod twins

@@ -1,7 +1,7 @@
 // Contractions, over the codes of variables and symbols.
 ghost use mathlib.Core.Path.{_≡_};
 ghost use Prim.Native.Nat.{_+_, _*_, _%_};
-ghost use Rattle.sets.specs.Contracting.{equality};
+ghost use Rattle.sets.specs.twins.Contracting.{equality};
 
 // A substitution of one variable, by one cell or by a pair of two, or a restriction by one non-equality; and the two
 // special contractions. What each means is `contractionOf` of specs/.

@@ -1,6 +1,6 @@
 // The path's counter of fresh numbers.
 ghost use mathlib.Core.Path.{_≡_};
-ghost use Rattle.sets.specs.Counting.{handed};
+ghost use Rattle.sets.specs.twins.Counting.{handed};
 
 // The first number that has not been handed out.
 pub struct Counter {

@@ -1,7 +1,7 @@
 // Filling: what it answers, and a variable renamed in place.
-use crate::cell;
+use cells::cell;
 ghost use mathlib.Core.Path.{_≡_};
-ghost use Rattle.sets.specs.Fill.{renamed};
+ghost use Rattle.sets.specs.twins.Fill.{renamed};
 
 // Done: the place behind what was written. Over: it does not fit.
 pub enum Filled {

@@ -1,7 +1,7 @@
 // The set operations of 01 ("Sets, filling and splitting") over cells: a tree in preorder, one u16 a node. Each function
 // is equated with a definition of specs/ for slices of any content; proofs/ says what that is where the cells hold trees.
-pub mod cell;
 pub mod contraction;
 pub mod counter;
 pub mod fill;
 pub mod restriction;
+pub mod tree;

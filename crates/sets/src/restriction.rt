@@ -1,8 +1,9 @@
 // Restrictions in cells, two a non-equality, oldest first: adding one, simplifying, and binding a `?a`.
-use crate::cell;
 use crate::fill;
+use crate::tree;
+use cells::cell;
 ghost use mathlib.Core.Path.{_≡_};
-ghost use Rattle.sets.specs.Restricting.{standsCells, kindCells, addCells, simplifyCells, bindCells};
+ghost use Rattle.sets.specs.twins.Restricting.{standsCells, kindCells, addCells, simplifyCells, bindCells};
 
 // What becomes of a non-equality behind those that are kept.
 pub enum Kind {
@@ -111,7 +112,7 @@ pub fn bind(q: &mut [u16], n: usize, x: u16, y: u16) -> Restricted
     ensures { λ r. ⌜ (let w = bindCells n x y (now (q .entry)) in (r ≡ w .answer) × (now (q .exit) ≡ w .cells)) ⌝ }
 {
     let count = cell::least(n, q.len() / 2);
-    if cell::stands_in(q, 0, 2 * count, x) {
+    if tree::stands_in(q, 0, 2 * count, x) {
         fill::rename(q, 2 * count, x, y);
         return simplify(q, count);
     }

@@ -17,14 +17,14 @@ use Rattle.language.specs.Program.{Param, pe, pa}
 use Rattle.language.specs.Scope.{Scope, isIn, isAtomic}
 use Rattle.language.specs.Source.{SExp, symS, evarS, avarS, pairS, SParam, exp, atOf, params}
 use Rattle.language.specs.ProgramCheck.{reachE, reachEa, reachArgs}
-use Rattle.syntax.specs.Standing.{WordAt, NameAt, ExpAt, symbolAt, consAt, ExpsAt, ParamsAt}
-use Rattle.syntax.specs.Standing as at
+use Rattle.syntax.specs.twins.Standing.{WordAt, NameAt, ExpAt, symbolAt, consAt, ExpsAt, ParamsAt}
+use Rattle.syntax.specs.twins.Standing as at
 use Rattle.checker.specs.declared.check.Verdict.{Verdict}
 use Rattle.checker.specs.declared.check.Verdict.the-variants.{Fine, Fault}
 use Rattle.checker.specs.declared.check.Walked.{Walked}
 use Rattle.checker.specs.declared.check.Args.{Args}
 use Rattle.checker.specs.declared.check.Names.{Names}
-use Rattle.checker.specs.CheckAt.{first, judge, ahead, walked, arguments, isNamed, inReach, leafAt, pairAt, pick, expAt, atomicAt, eaAt, argAt, argsAt}
+use Rattle.checker.specs.twins.CheckAt.{first, judge, ahead, walked, arguments, isNamed, inReach, leafAt, pairAt, pick, expAt, atomicAt, eaAt, argAt, argsAt}
 
 -- a verdict of the meaning as the code has it
 abbrev pub coded : bytes.Verdict → Verdict
@@ -133,7 +133,7 @@ module _ (tok : ℕ → Token) (n : ℕ) where
       ap₂ first (exp-uses sc s r c) (exp-uses sc s r d) ∙ inv (coded-first (reachE s p) (reachE s q))
 
   -- an ea
-  atomic-at : {room i : ℕ} {c : SExp} {k : ℕ} → ExpAt tok n ofProgram room i c k → atomicAt keys kinds nums ats n i ≡ isAtomic (exp c)
+  atomic-at : {room i : ℕ} {c : SExp} {k : ℕ} → ExpAt tok n ofProgram room i c k → atomicAt keys kinds i ≡ isAtomic (exp c)
   atomic-at {room} {i} (symbolAt b x) = ap₂ (λ p q. not p && not q) b (isA-other symbol ename (tok i) (x .kind))
   atomic-at {room} {i} (at.ExpAt.eAt b x) = ap₂ (λ p q. not p && not q) b (x .kind)
   atomic-at {room} {i} (at.ExpAt.aAt b x) = ap₂ (λ p q. not p && not q) b (isA-other aname ename (tok i) (x .kind))

@@ -1,4 +1,4 @@
--- What the brackets say is where an expression, a condition or a term ends (specs/Ends.antt, specs/Placed.antt).
+-- What the brackets say is where an expression, a condition or a term ends (specs/twins/Ends.antt, specs/twins/Placed.antt).
 use Prim.Native.Nat.{ℕ, zero, suc, _+_, _-_, _≤_, _<_}
 use Prim.Native.String.{String}
 use mathlib.Core.Path.{_≡_, refl, ap, ap₂, subst, _∙_, sym as inv}
@@ -17,11 +17,11 @@ use Rattle.language.specs.Words.{fits}
 use Rattle.language.specs.Tokens.{Kind, Text, ofProgram, Token, keyOf}
 use Rattle.language.specs.Reader.{is}
 use Rattle.language.specs.Program.{Condition, Term}
-use Rattle.syntax.specs.Standing.{WordAt, NameAt}
-use Rattle.syntax.specs.Placed.{ExpIn, symbolIn, consIn, ExpsIn, ConditionIn, eqaIn, conspIn, TermIn, callIn, ifIn, resultIn}
-use Rattle.syntax.specs.Placed as placed
-use Rattle.lexer.specs.Marks.{cellOf}
-use Rattle.syntax.specs.Ends.{opens, closes, closeFrom, pastAt, endsFrom}
+use Rattle.syntax.specs.twins.Standing.{WordAt, NameAt}
+use Rattle.syntax.specs.twins.Placed.{ExpIn, symbolIn, consIn, ExpsIn, ConditionIn, eqaIn, conspIn, TermIn, callIn, ifIn, resultIn}
+use Rattle.syntax.specs.twins.Placed as placed
+use Rattle.words.specs.twins.Marks.{cellOf}
+use Rattle.syntax.specs.twins.Ends.{opens, closes, closeFrom, pastAt, endsFrom}
 
 -- a word that fits as a name is no bracket
 abbrev pub Unbracketed : (ℕ → Token) → Type 0

@@ -13,10 +13,10 @@ use Rattle.syntax.proofs.Advances.{Advances, fewer, give-advances, bind
 use Rattle.language.specs.Source.{Stand, SExp, symS, evarS, avarS, pairS, SCondition, eqaS, conspS, STerm, callS, conditionalS, resultS, SParam, SDef, SProg, SJob}
 use Rattle.language.specs.Grammar.{standing, word, orWord, leaf, leafD, consAt, tree, expr, datum, args, condition, form, term, parameter, parameters, definition, isEnd, definitions, program, sides, part, jobText}
 use Rattle.syntax.proofs.GrammarAdvances.{takes, word-advances, tree-advances, leaf-advances, leafD-advances, expr-advances, datum-advances, args-advances, condition-advances, term-advances, cons-advances, parameter-advances, parameters-advances, definition-advances, definitions-advances, sides-advances, part-advances}
-use Rattle.lexer.specs.declared.got.Got.{Got}
-use Rattle.lexer.specs.declared.got.Got.the-variants.{Past}
-use Rattle.grammar.specs.Positions.{nothing, takeP, seqP, wrongP, chooseP, upToP}
-use Rattle.grammar.specs.Positions as at
+use Rattle.words.specs.declared.got.Got.{Got}
+use Rattle.words.specs.declared.got.Got.the-variants.{Past}
+use Rattle.grammar.specs.twins.Positions.{nothing, takeP, seqP, wrongP, chooseP, upToP}
+use Rattle.grammar.specs.twins.Positions as at
 use Rattle.syntax.proofs.Tracks.{tokenAt, Tracks, give-tracks, wrong-tracks, take-tracks, choose-tracks, bind-tracks, then-tracks, last-tracks, upTo-tracks}
 
 module _ (ts : List Token) where

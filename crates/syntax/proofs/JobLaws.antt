@@ -21,14 +21,14 @@ use Rattle.language.specs.Reader.{is, isA}
 use Rattle.language.specs.Scope.{isAtomic}
 use Rattle.language.specs.Source.{SExp, symS, pairS, SParam, SJob, exp, exps, atOf, params}
 use Rattle.language.specs.JobCheck.{Tool, lister, runner, groundVerdict, variables, kindsVerdict, standsIn, standsInAny, sideFits, sidesVerdict, jobVerdict}
-use Rattle.syntax.specs.Standing.{WordAt, NameAt, ExpAt, symbolAt, consAt, ExpsAt, ParamsAt, SidesAt, JobAt, jobAt}
-use Rattle.syntax.specs.Standing as at
+use Rattle.syntax.specs.twins.Standing.{WordAt, NameAt, ExpAt, symbolAt, consAt, ExpsAt, ParamsAt, SidesAt, JobAt, jobAt}
+use Rattle.syntax.specs.twins.Standing as at
 use Rattle.checker.specs.declared.check.Verdict.{Verdict}
 use Rattle.checker.specs.declared.check.Verdict.the-variants.{Fine}
 use Rattle.checker.specs.declared.check.Walked.{Walked}
-use Rattle.checker.specs.CheckAt.{first, judge, ahead, walked, arguments}
-use Rattle.job_checker.specs.JobCheckAt as check
-use Rattle.job_checker.specs.JobCheckAt.{datumAt, inputsAt, markedFrom, standsFrom, sidesAt}
+use Rattle.checker.specs.twins.CheckAt.{first, judge, ahead, walked, arguments}
+use Rattle.job_checker.specs.twins.JobCheckAt as check
+use Rattle.job_checker.specs.twins.JobCheckAt.{datumAt, inputsAt, markedFrom, standsFrom, sidesAt}
 use Rattle.syntax.proofs.CheckLaws.{coded, coded-first, coded-judge, first-fine, first-assoc, ahead-in, isA-other, exp-least, exp-most, keys, kinds, ats}
 use Rattle.syntax.proofs.TermLaws.{length-params}
 
@@ -45,7 +45,7 @@ module _ (tok mtok : ℕ → Token) (n m : ℕ) (tool : Tool) where
   datumOf room i = datumAt (keys tok n) (kinds tok n) (ats tok n) n (isRunner tool) room i
 
   abbrev leafOf : ℕ → Walked
-  leafOf i = check.datumLeaf (keys tok n) (kinds tok n) (ats tok n) n (isRunner tool) i
+  leafOf i = check.datumLeaf (kinds tok n) (ats tok n) n (isRunner tool) i
 
   datum-leaf : (room i : ℕ) → is "(" (tok i) ≡ false → datumOf room i ≡ leafOf i
   unfolding datumAt
@@ -141,7 +141,7 @@ module _ (tok mtok : ℕ → Token) (n m : ℕ) (tool : Tool) (num val : ℕ →
       ap₂ first (datum-uses c) (datum-uses d) ∙ pair-found tool (tok i .at) p q
 
   abbrev atomicOf : ℕ → Bool
-  atomicOf i = check.atomicAt (keys tok n) (kinds tok n) (ats tok n) n (isRunner tool) i
+  atomicOf i = check.atomicAt (keys tok n) (kinds tok n) i
 
   atomic-at : {room i : ℕ} {c : SExp} {k : ℕ} → ExpAt tok n ofJob room i c k → atomicOf i ≡ isAtomic (exp c)
   atomic-at {room} {i} (symbolAt b x) = ap₂ (λ p q. not p && not q) b (isA-other symbol evariable (tok i) (x .kind))
@@ -282,7 +282,7 @@ module _ (tok mtok : ℕ → Token) (n m : ℕ) (tool : Tool) (num val : ℕ →
       marked-stands (kinds tok n) num (end - 4) 4 x (replicate 1000 0) (omega (arith, length-replicate {A = ℕ} 1000 0)) ∙ ap (λ c. eqb c 1 || standsOf (end - 4) 4 x) (getD-replicate 1000 x 0 0 l)
 
   abbrev sideOf : ℕ → ℕ → Bool
-  sideOf end i = check.sideAt (keys tok n) (kinds tok n) num (ats tok n) n (isRunner tool) (markedTo end) i
+  sideOf end i = check.sideAt (keys tok n) (kinds tok n) num (markedTo end) i
 
   module _ (cs : List Exp) (end : ℕ) (h : (x : ℕ) → standsOf (end - 4) 4 x ≡ standsInAny x cs) where
     side-at : {room i : ℕ} {c : SExp} {k : ℕ} → ExpAt tok n ofJob room i c k → sideOf end i ≡ sideFits cs (exp c)

@@ -13,14 +13,14 @@ use Rattle.language.specs.Tokens.{Kind, symbol, evariable, avariable, plain, sa
 use Rattle.language.specs.Reader.{is, isA}
 use Rattle.language.specs.Source.{SExp, symS, evarS, avarS, pairS, SJob}
 use Rattle.language.specs.Grammar.{standing}
-use Rattle.grammar.specs.Stored as stored
-use Rattle.job_checker.specs.JobStored.{valAt}
-use Rattle.lexer.specs.Lexed.{State}
-use Rattle.checker.specs.StoredAt.{keyAt}
-use Rattle.syntax.specs.PartEnds.{partEnds, jobNumerals}
+use Rattle.grammar.specs.twins.Stored as stored
+use Rattle.job_checker.specs.twins.JobStored.{valAt}
+use Rattle.lexer.specs.twins.Lexed.{State}
+use Rattle.checker.specs.twins.StoredAt.{keyAt}
+use Rattle.syntax.specs.twins.PartEnds.{partEnds, jobNumerals}
 use Rattle.syntax.specs.declared.numerals.Numerals.{Numerals}
-use Rattle.syntax.specs.Standing.{WordAt, NameAt, ExpAt, symbolAt, consAt, ExpsAt, SidesAt, JobAt, jobAt}
-use Rattle.syntax.specs.Standing as at
+use Rattle.syntax.specs.twins.Standing.{WordAt, NameAt, ExpAt, symbolAt, consAt, ExpsAt, SidesAt, JobAt, jobAt}
+use Rattle.syntax.specs.twins.Standing as at
 use Rattle.syntax.proofs.Tracks.{tokenAt}
 use Rattle.syntax.proofs.Shut.{Alike}
 use Rattle.syntax.proofs.CheckLaws.{isA-other, ahead-in}

@@ -15,18 +15,18 @@ use Rattle.language.specs.Source.{SDef, SProg, SJob, params}
 use Rattle.language.specs.Grammar.{jobText}
 use Rattle.language.specs.JobCheck.{Tool, jobVerdict}
 use Rattle.language.specs.Reading.{readJob}
-use Rattle.lexer.specs.declared.got.Got.the-variants.{Past, Refused}
-use Rattle.grammar.specs.Positions.{onPast}
-use Rattle.grammar.specs.Stored as stored
-use Rattle.checker.specs.StoredAt.{keyAt, tagAt, numAt, atAt}
-use Rattle.job_checker.specs.JobStored as check
-use Rattle.job_checker.specs.JobStored.{numeralFrom, valAt}
-use Rattle.job_checker.specs.JobCheckAt as at
-use Rattle.syntax.specs.Standing.{ParamsAt, DefAt, defineAt, ProgramAt, JobAt}
-use Rattle.lexer.specs.Cutting.{bytesAt, wordAt}
-use Rattle.lexer.specs.Table.{wordOn, wordIn}
-use Rattle.lexer.specs.Lexed.{shifted, State, starting, cutFrom}
-use Rattle.syntax.specs.ReadAnswer.{verdictGot, jobAnswer, resGot}
+use Rattle.words.specs.declared.got.Got.the-variants.{Past, Refused}
+use Rattle.grammar.specs.twins.Positions.{onPast}
+use Rattle.grammar.specs.twins.Stored as stored
+use Rattle.checker.specs.twins.StoredAt.{keyAt, tagAt, numAt, atAt}
+use Rattle.job_checker.specs.twins.JobStored as check
+use Rattle.job_checker.specs.twins.JobStored.{numeralFrom, valAt}
+use Rattle.job_checker.specs.twins.JobCheckAt as at
+use Rattle.syntax.specs.twins.Standing.{ParamsAt, DefAt, defineAt, ProgramAt, JobAt}
+use Rattle.words.specs.twins.Cutting.{bytesAt, wordAt}
+use Rattle.lexer.specs.twins.Table.{wordOn, wordIn}
+use Rattle.lexer.specs.twins.Lexed.{shifted, State, starting, cutFrom}
+use Rattle.syntax.specs.twins.ReadAnswer.{verdictGot, jobAnswer, resGot}
 use Rattle.syntax.proofs.Tracks.{gotOf, tokenAt}
 use Rattle.syntax.proofs.Shut.{Alike}
 use Rattle.syntax.proofs.CheckLaws.{coded, isA-other, keys, kinds, ats}

@@ -1,4 +1,4 @@
--- A job that was read stands in its tokens as specs/Standing.antt says.
+-- A job that was read stands in its tokens as specs/twins/Standing.antt says.
 use Prim.Native.Nat.{ℕ, zero, suc, _+_, _≤_, _<_}
 use Prim.Native.String.{String}
 use mathlib.Core.Path.{_≡_, refl}
@@ -9,11 +9,11 @@ use native.Mathlib.Nat.{add-assoc}
 use lib.ListN.{length, drop}
 use Rattle.language.specs.Tokens.{plain, ofJob, Token}
 use Rattle.language.specs.Reader.{ok, Reader, is}
-use Rattle.grammar.specs.Positions.{nothing}
+use Rattle.grammar.specs.twins.Positions.{nothing}
 use Rattle.language.specs.Source.{Stand, SExp, SJob}
 use Rattle.language.specs.Grammar as grammar
-use Rattle.syntax.specs.Standing.{WordAt, NameAt, ExpAt, ExpsAt, SidesAt, NumeralAt, JobAt, jobAt}
-use Rattle.syntax.specs.Standing as at
+use Rattle.syntax.specs.twins.Standing.{WordAt, NameAt, ExpAt, ExpsAt, SidesAt, NumeralAt, JobAt, jobAt}
+use Rattle.syntax.specs.twins.Standing as at
 use Rattle.syntax.proofs.Tracks.{tokenAt}
 use Rattle.syntax.proofs.ReadParts.{Part, Given, given, Both, both, Either, left, right, Items, done, item, Wrong, never, Reads, read-as, give-reads, bind-reads, then-reads, wrong-reads, choose-reads, upTo-reads}
 use Rattle.syntax.proofs.Standing.{Word, word, Standing, stand, Exp, the-reads, word-reads, datum-reads, items-at}

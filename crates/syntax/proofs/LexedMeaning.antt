@@ -12,14 +12,14 @@ use lib.Seq.{length-take-le, getD-set-same, getD-set-other}
 use borrow.Author.Tests.{ltb-true, ltb-false}
 use Rattle.language.specs.Words.{Word}
 use Rattle.language.specs.Tokens.{Piece, keyOf, firsts, isSymbol, isAmong, Token, tokensFrom}
-use Rattle.grammar.specs.Positions.{nothing}
-use Rattle.lexer.specs.Marks.{markOf, cellOf}
-use Rattle.lexer.specs.Cutting.{startAt, pieceEnd, wordAt}
-use Rattle.lexer.specs.Judged.{textOf}
-use Rattle.lexer.specs.Table.{wordIn, entered}
-use Rattle.lexer.specs.Lexed.{shifted, enteredIf, State, stored, passed, cutFrom, shuts}
+use Rattle.grammar.specs.twins.Positions.{nothing}
+use Rattle.words.specs.twins.Marks.{markOf, cellOf}
+use Rattle.words.specs.twins.Cutting.{startAt, pieceEnd, wordAt}
+use Rattle.words.specs.twins.Judged.{textOf}
+use Rattle.lexer.specs.twins.Table.{wordIn, entered}
+use Rattle.lexer.specs.twins.Lexed.{shifted, enteredIf, State, stored, passed, cutFrom, shuts}
 use Rattle.lexer.specs.declared.lexer.Token.{Token as Made}
-use Rattle.lexer.proofs.CutByIndex.{start-most, end-most, end-ahead, cut-some}
+use Rattle.words.proofs.CutByIndex.{start-most, end-most, end-ahead, cut-some}
 use Rattle.lexer.proofs.LexedLaws.{nextIn, cut-shut, cut-on}
 use Rattle.lexer.proofs.TableMeaning.{Holds}
 use Rattle.lexer.proofs.LexedStep.{isOther, First, first-piece, Follows, tok, makes, below, symbols-below, follows}

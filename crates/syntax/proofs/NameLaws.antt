@@ -17,10 +17,10 @@ use Rattle.language.specs.Program.{Param, pe, pa, Prog, find}
 use Rattle.language.specs.Scope.{Scope, isIn, withE, withA, scopeOf}
 use Rattle.language.specs.Source.{SExp, SParam, SDef, params, placeOf, functions, progOf}
 use Rattle.language.specs.ProgramCheck.{reachE, reachEa, reachArgs}
-use Rattle.syntax.specs.Standing.{WordAt, NameAt, ParamsAt, DefAt, defineAt, HeadsAt}
-use Rattle.syntax.specs.Standing as at
+use Rattle.syntax.specs.twins.Standing.{WordAt, NameAt, ParamsAt, DefAt, defineAt, HeadsAt}
+use Rattle.syntax.specs.twins.Standing as at
 use Rattle.checker.specs.declared.check.Names.{Names}
-use Rattle.checker.specs.CheckAt.{ahead, noNames, push, sameName, isNamed, inReach, placeAt, paramsAt, paramsEnd}
+use Rattle.checker.specs.twins.CheckAt.{ahead, noNames, push, sameName, isNamed, inReach, placeAt, paramsAt, paramsEnd}
 use Rattle.syntax.proofs.CheckLaws.{coded, ahead-in, isA-other, keys, kinds, nums, ats, Reach, argsFit, argUses, argsUses}
 
 -- there is room for m names more

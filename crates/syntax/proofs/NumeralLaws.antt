@@ -12,11 +12,11 @@ use borrow.Author.Tests.{ltb-true, ltb-false, le-ltb, lt-leb, leb-true}
 use Rattle.expressions.proofs.Tests.{and-both}
 use Rattle.language.specs.Bytes.{Byte, blank, bracket, digit, letter, mark, outside, byteKind, isDigit, inWord, within}
 use Rattle.language.specs.Words.{Word, all, fits, broken, long, isNumeral, numeralFit, valueFrom, value}
-use Rattle.lexer.specs.Cutting.{pieceEnd, wordAt}
-use Rattle.job_checker.specs.JobStored.{numeralFrom}
+use Rattle.words.specs.twins.Cutting.{pieceEnd, wordAt}
+use Rattle.job_checker.specs.twins.JobStored.{numeralFrom}
 use Rattle.syntax.proofs.CheckLaws.{ahead-in}
-use Rattle.lexer.proofs.CutByIndex.{end-ahead, end-stops}
-use Rattle.lexer.proofs.Ranges.{in-range}
+use Rattle.words.proofs.CutByIndex.{end-ahead, end-stops}
+use Rattle.words.proofs.Ranges.{in-range}
 
 -- digits
 digit-range : (b : ℕ) → isDigit (byteKind b) ≡ true → (48 ≤ b) × (b ≤ 57)

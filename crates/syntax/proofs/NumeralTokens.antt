@@ -13,11 +13,11 @@ use Rattle.language.specs.Bytes.{within}
 use Rattle.language.specs.Words.{Word, fits, broken, long, isNumeral, numeralFit, numberFit, value}
 use Rattle.language.specs.Tokens.{Piece, cut, Kind, symbol, ename, aname, evariable, avariable, plain, sameKind, kindOf, ofJob, fitOf, numOf, fitting, symbolsOf, namesOf, Token, token, tokensFrom, tokens}
 use Rattle.language.specs.Reader.{isA}
-use Rattle.grammar.specs.Positions.{nothing}
-use Rattle.lexer.specs.Cutting.{startAt, pieceEnd, wordAt}
-use Rattle.job_checker.specs.JobStored.{numeralFrom}
+use Rattle.grammar.specs.twins.Positions.{nothing}
+use Rattle.words.specs.twins.Cutting.{startAt, pieceEnd, wordAt}
+use Rattle.job_checker.specs.twins.JobStored.{numeralFrom}
 use Rattle.syntax.proofs.Tracks.{tokenAt}
-use Rattle.lexer.proofs.CutByIndex.{start-most, end-most}
+use Rattle.words.proofs.CutByIndex.{start-most, end-most}
 use Rattle.lexer.proofs.LexedStep.{first-piece}
 use Rattle.syntax.proofs.NumeralLaws.{numeral-read}
 

@@ -1,4 +1,4 @@
--- What the brackets say is where the parts of a job stand (specs/PartEnds.antt).
+-- What the brackets say is where the parts of a job stand (specs/twins/PartEnds.antt).
 use Prim.Native.Nat.{ℕ, suc, _+_, _-_, _≤_, _<_}
 use Prim.Native.String.{String}
 use mathlib.Core.Path.{_≡_, refl, _∙_}
@@ -11,9 +11,9 @@ use lib.Dec.{eqb}
 use Rattle.language.specs.Bytes.{txt}
 use Rattle.language.specs.Tokens.{ofJob, Token, keyOf}
 use Rattle.language.specs.Source.{SExp}
-use Rattle.syntax.specs.Standing.{WordAt, ExpAt, ExpsAt, SidesAt}
-use Rattle.syntax.specs.Standing as at
-use Rattle.syntax.specs.PartEnds.{partsTo, partEnds}
+use Rattle.syntax.specs.twins.Standing.{WordAt, ExpAt, ExpsAt, SidesAt}
+use Rattle.syntax.specs.twins.Standing as at
+use Rattle.syntax.specs.twins.PartEnds.{partsTo, partEnds}
 use Rattle.syntax.specs.declared.job_ends.JobEnds.{JobEnds}
 use Rattle.syntax.proofs.CheckLaws.{ahead-in}
 use Rattle.syntax.proofs.Placed.{exp-placed}

@@ -5,9 +5,9 @@ use mathlib.Core.Bool.{true, false}
 use mathlib.Core.List.{List}
 use lib.ListN.{getD, set}
 use borrow.Author.Tests.{le-leb, lt-leb}
-use Rattle.lexer.specs.Marks.{cellOf}
-use Rattle.syntax.specs.Heads.{headsFrom}
-use Rattle.syntax.specs.Ends.{opens, closes, closeFrom, pastAt, endsFrom}
+use Rattle.words.specs.twins.Marks.{cellOf}
+use Rattle.syntax.specs.twins.Heads.{headsFrom}
+use Rattle.syntax.specs.twins.Ends.{opens, closes, closeFrom, pastAt, endsFrom}
 use Rattle.checker.proofs.CheckOpenings.{counted-out, counted-on}
 
 -- one token on in the search for a closing bracket

@@ -1,4 +1,4 @@
--- What stands in the tokens of a program is placed there as specs/Placed.antt says; what the first tokens of a term say of it.
+-- What stands in the tokens of a program is placed there as specs/twins/Placed.antt says; what the first tokens of a term say of it.
 use Prim.Native.Nat.{ℕ, zero, suc, _+_, _≤_, _<_}
 use mathlib.Core.Path.{_≡_, refl, ap, subst, _∙_, sym as inv}
 use mathlib.Core.Bool.{Bool, true, false}
@@ -10,10 +10,10 @@ use Rattle.language.specs.Program.{Condition, Term}
 use Rattle.language.specs.Tokens.{Text, ofProgram, Token}
 use Rattle.language.specs.Reader.{is}
 use Rattle.language.specs.Source.{SExp, SCondition, STerm, SParam, SDef, exp, exps, condition, term, params, functions, progOf}
-use Rattle.syntax.specs.Standing as at
-use Rattle.syntax.specs.Standing.{WordAt, ExpAt, ExpsAt, ConditionAt, TermAt, ParamsAt, DefAt, HeadsAt}
-use Rattle.syntax.specs.Placed.{ExpIn, symbolIn, consIn, ExpsIn, ConditionIn, eqaIn, conspIn, TermIn, callIn, ifIn, resultIn, ParamsIn, DefIn, DefsIn, View, leafView, callView, ifView, consView, ConditionView, eqaView, conspView}
-use Rattle.syntax.specs.Placed as placed
+use Rattle.syntax.specs.twins.Standing as at
+use Rattle.syntax.specs.twins.Standing.{WordAt, ExpAt, ExpsAt, ConditionAt, TermAt, ParamsAt, DefAt, HeadsAt}
+use Rattle.syntax.specs.twins.Placed.{ExpIn, symbolIn, consIn, ExpsIn, ConditionIn, eqaIn, conspIn, TermIn, callIn, ifIn, resultIn, ParamsIn, DefIn, DefsIn, View, leafView, callView, ifView, consView, ConditionView, eqaView, conspView}
+use Rattle.syntax.specs.twins.Placed as placed
 use Rattle.syntax.proofs.CheckLaws.{is-other}
 
 module _ {tok : ℕ → Token} {n : ℕ} where

@@ -20,14 +20,14 @@ use Rattle.language.specs.WellFormed.{hasParam}
 use Rattle.language.specs.Source.{SParam, SDef, SProg, params, placeOf, functions, progOf, prog, defs, SCondition, STerm}
 use Rattle.language.specs.ProgramCheck.{termTwice, defsTwice, termVerdict, defsVerdict, programVerdict}
 use Rattle.language.specs.ProgramCheck as meaning
-use Rattle.syntax.specs.Standing.{WordAt, NameAt, ConditionAt, eqaAt, conspAt, TermAt, callAt, ifAt, resultAt, ParamsAt, DefAt, defineAt, DefsAt, HeadsAt, DefsFrom, ProgramAt}
-use Rattle.syntax.specs.Standing as at
+use Rattle.syntax.specs.twins.Standing.{WordAt, NameAt, ConditionAt, eqaAt, conspAt, TermAt, callAt, ifAt, resultAt, ParamsAt, DefAt, defineAt, DefsAt, HeadsAt, DefsFrom, ProgramAt}
+use Rattle.syntax.specs.twins.Standing as at
 use Rattle.checker.specs.declared.check.Verdict.{Verdict}
 use Rattle.checker.specs.declared.check.Verdict.the-variants.{Fine, Fault}
 use Rattle.checker.specs.declared.check.Names.{Names}
 use Rattle.checker.specs.declared.check.Defs.{Defs}
-use Rattle.checker.specs.CheckAt as check
-use Rattle.checker.specs.CheckAt.{first, judge, ahead, noNames, push, paramsTwice, defsAt, bodiesAt, programAt}
+use Rattle.checker.specs.twins.CheckAt as check
+use Rattle.checker.specs.twins.CheckAt.{first, judge, ahead, noNames, push, paramsTwice, defsAt, bodiesAt, programAt}
 use Rattle.syntax.proofs.CheckLaws.{coded, coded-first, coded-judge, first-fine, first-assoc, ahead-in, is-other, keys, kinds, nums, ats, exp-least, exp-most, exps-bounds}
 use Rattle.syntax.proofs.NameLaws.{Wide, wide-less, no-names-wide, push-wide, reached, push-reached, same-kind, no-names-reach, params-end, params-wide, params-reach}
 use Rattle.syntax.proofs.TermLaws.{place-at, term-at}

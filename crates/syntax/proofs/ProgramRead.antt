@@ -13,14 +13,14 @@ use Rattle.language.specs.Source.{SProg}
 use Rattle.language.specs.Grammar.{program}
 use Rattle.language.specs.ProgramCheck.{programVerdict}
 use Rattle.language.specs.Reading.{readProgram}
-use Rattle.lexer.specs.declared.got.Got.the-variants.{Past, Refused}
-use Rattle.grammar.specs.Positions.{onPast}
-use Rattle.grammar.specs.Stored as stored
-use Rattle.checker.specs.CheckStored as check
-use Rattle.lexer.specs.Cutting.{bytesAt, wordAt}
-use Rattle.lexer.specs.Table.{wordOn, wordIn}
-use Rattle.lexer.specs.Lexed.{State, starting, cutFrom}
-use Rattle.syntax.specs.ReadAnswer.{verdictGot, programAnswer, resGot}
+use Rattle.words.specs.declared.got.Got.the-variants.{Past, Refused}
+use Rattle.grammar.specs.twins.Positions.{onPast}
+use Rattle.grammar.specs.twins.Stored as stored
+use Rattle.checker.specs.twins.CheckStored as check
+use Rattle.words.specs.twins.Cutting.{bytesAt, wordAt}
+use Rattle.lexer.specs.twins.Table.{wordOn, wordIn}
+use Rattle.lexer.specs.twins.Lexed.{State, starting, cutFrom}
+use Rattle.syntax.specs.twins.ReadAnswer.{verdictGot, programAnswer, resGot}
 use Rattle.syntax.proofs.Tracks.{gotOf, tokenAt}
 use Rattle.syntax.proofs.CheckLaws.{coded}
 use Rattle.syntax.proofs.JobLaws.{Fixed}

@@ -15,12 +15,12 @@ use Rattle.language.specs.Words.{Word}
 use Rattle.language.specs.Tokens.{Text, Token, tokens}
 use Rattle.language.specs.Reader.{Res, ok, refused, refuse, andThen, unlessFault, Reader}
 use Rattle.language.specs.Reading.{readText}
-use Rattle.lexer.specs.declared.got.Got.{Got}
-use Rattle.lexer.specs.declared.got.Got.the-variants.{Past, Refused}
+use Rattle.words.specs.declared.got.Got.{Got}
+use Rattle.words.specs.declared.got.Got.the-variants.{Past, Refused}
 use Rattle.checker.specs.declared.check.Verdict.{Verdict}
-use Rattle.grammar.specs.Positions.{onPast}
-use Rattle.lexer.specs.Cutting.{scan, outsideAt, soundAt, shortAt, bytesAt}
-use Rattle.syntax.specs.ReadAnswer.{verdictGot, answer, resGot, bytesGot}
+use Rattle.grammar.specs.twins.Positions.{onPast}
+use Rattle.words.specs.twins.Cutting.{scan, outsideAt, soundAt, shortAt, bytesAt}
+use Rattle.syntax.specs.twins.ReadAnswer.{verdictGot, answer, resGot, bytesGot}
 use Rattle.syntax.proofs.Tracks.{gotOf}
 use Rattle.syntax.proofs.CheckLaws.{coded}
 

@@ -5,10 +5,10 @@ use mathlib.Core.Bool.{Bool, true, false}
 use native.Mathlib.Omega.{arith}
 use Rattle.language.specs.Tokens.{plain, Token}
 use Rattle.language.specs.Grammar.{isEnd}
-use Rattle.lexer.specs.declared.got.Got.{Got}
-use Rattle.lexer.specs.declared.got.Got.the-variants.{Past, Refused}
-use Rattle.grammar.specs.Positions as at
-use Rattle.grammar.specs.Positions.{onPast, seqP, pickP, wrongP, chooseP, upToP}
+use Rattle.words.specs.declared.got.Got.{Got}
+use Rattle.words.specs.declared.got.Got.the-variants.{Past, Refused}
+use Rattle.grammar.specs.twins.Positions as at
+use Rattle.grammar.specs.twins.Positions.{onPast, seqP, pickP, wrongP, chooseP, upToP}
 use Rattle.syntax.proofs.Shut.{past-inj, refused-past}
 
 module _ (tok : ℕ → Token) (n : ℕ) where

@@ -1,5 +1,5 @@
 -- What a reader read, by index: `Reads m R` says that R holds of the index where m began, of what it gave and of the index past it.
--- R is put together as the reader is, of the families below; proofs/Standing.antt turns them into those of specs/Standing.antt.
+-- R is put together as the reader is, of the families below; proofs/Standing.antt turns them into those of specs/twins/Standing.antt.
 use Prim.Native.Nat.{ℕ, zero, suc, _+_, _-_, _≤_, _<_}
 use Prim.Native.String.{String}
 use mathlib.Core.Path.{_≡_, refl, ap, subst, _∙_, sym as inv}
@@ -11,7 +11,7 @@ use lib.Seq.{drop-drop, getD-drop}
 use Rattle.language.specs.Words.{Fit, fits, broken, long, many}
 use Rattle.language.specs.Tokens.{Token}
 use Rattle.language.specs.Reader.{Res, ok, andThen, Reader, _>>=_, _>>_, give, judged, take, is, wrong, next, pick, choose, manyIn, upTo}
-use Rattle.grammar.specs.Positions.{nothing}
+use Rattle.grammar.specs.twins.Positions.{nothing}
 use Rattle.syntax.proofs.Advances.{ok-inj, refused-ok, then-ok}
 use Rattle.syntax.proofs.Tracks.{tokenAt}
 

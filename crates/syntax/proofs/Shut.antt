@@ -15,10 +15,10 @@ use Rattle.language.specs.Bytes.{txt}
 use Rattle.language.specs.Tokens.{keyOf, Kind, symbol, ename, aname, evariable, avariable, plain, tag, sameKind, Token}
 use Rattle.language.specs.Reader.{is, isA, fitIf, roomed, oneFit}
 use Rattle.language.specs.Grammar.{isEnd}
-use Rattle.lexer.specs.declared.got.Got.{Got}
-use Rattle.lexer.specs.declared.got.Got.the-variants.{Past, Refused}
-use Rattle.grammar.specs.Positions as at
-use Rattle.grammar.specs.Positions.{onPast, judgedAt, seqP, pickP, takeP, wrongP, chooseP, manyP, upToP}
+use Rattle.words.specs.declared.got.Got.{Got}
+use Rattle.words.specs.declared.got.Got.the-variants.{Past, Refused}
+use Rattle.grammar.specs.twins.Positions as at
+use Rattle.grammar.specs.twins.Positions.{onPast, judgedAt, seqP, pickP, takeP, wrongP, chooseP, manyP, upToP}
 use Rattle.syntax.proofs.Standing.{roomed-fits}
 
 -- two tokens that differ in their numbers at most

@@ -1,4 +1,4 @@
--- What the grammar reads stands in the tokens as specs/Standing.antt says: `program-stands` for a program.
+-- What the grammar reads stands in the tokens as specs/twins/Standing.antt says: `program-stands` for a program.
 use Prim.Native.Nat.{ℕ, zero, suc, _+_, _≤_, _<_}
 use Prim.Native.String.{String}
 use mathlib.Core.Path.{_≡_, refl, ap, subst, _∙_, sym as inv}
@@ -10,13 +10,13 @@ use lib.ListN.{length, drop}
 use Rattle.language.specs.Words.{Fit, fits, broken, long, many}
 use Rattle.language.specs.Tokens.{Kind, symbol, ename, aname, evariable, avariable, plain, Text, ofProgram, ofJob, Token}
 use Rattle.language.specs.Reader.{ok, Reader, is, isA, fitIf, roomed, oneFit, oneOf, the, theIn}
-use Rattle.grammar.specs.Positions.{nothing}
+use Rattle.grammar.specs.twins.Positions.{nothing}
 use Rattle.language.specs.Program.{pe, pa}
 use Rattle.language.specs.Source.{Stand, SExp, symS, evarS, avarS, pairS, SCondition, eqaS, conspS, STerm, callS, conditionalS, resultS, SParam, SDef, SProg}
 use Rattle.language.specs.Grammar as grammar
 use Rattle.language.specs.Grammar.{standing}
-use Rattle.syntax.specs.Standing.{WordAt, NameAt, eKind, aKind, ExpAt, symbolAt, consAt, ExpsAt, ConditionAt, eqaAt, conspAt, TermAt, callAt, ifAt, resultAt, ParamsAt, DefAt, defineAt, DefsAt, ProgramAt}
-use Rattle.syntax.specs.Standing as at
+use Rattle.syntax.specs.twins.Standing.{WordAt, NameAt, eKind, aKind, ExpAt, symbolAt, consAt, ExpsAt, ConditionAt, eqaAt, conspAt, TermAt, callAt, ifAt, resultAt, ParamsAt, DefAt, defineAt, DefsAt, ProgramAt}
+use Rattle.syntax.specs.twins.Standing as at
 use Rattle.syntax.proofs.Tracks.{tokenAt}
 use Rattle.syntax.proofs.ReadParts.{Part, Given, given, Taken, taken, Both, both, Either, left, right, Items, done, item, Wrong, never, After, Reads, read-as, give-reads, take-reads, bind-reads, then-reads, wrong-reads, choose-reads, upTo-reads}
 

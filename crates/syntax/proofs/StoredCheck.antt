@@ -11,16 +11,16 @@ use Rattle.language.specs.Reader.{ok}
 use Rattle.language.specs.Grammar.{program}
 use Rattle.language.specs.Source.{SProg, functions, defs, prog}
 use Rattle.language.specs.ProgramCheck.{programVerdict}
-use Rattle.lexer.specs.Marks.{kindAt, kindTag, decode}
-use Rattle.grammar.specs.Stored.{markAt, offsetAt}
-use Rattle.grammar.specs.Stored as stored
-use Rattle.grammar.specs.Positions.{nothing}
-use Rattle.checker.specs.StoredAt.{keyAt, tagAt, numAt, atAt}
-use Rattle.syntax.specs.Standing.{ProgramAt, HeadsAt, DefsFrom}
-use Rattle.syntax.specs.Placed.{DefsIn}
-use Rattle.checker.specs.CheckStored.{programAt, defsAt}
-use Rattle.checker.specs.CheckAt as at
-use Rattle.checker.specs.CheckAt.{noDefs}
+use Rattle.words.specs.twins.Marks.{kindAt, kindTag, decode}
+use Rattle.grammar.specs.twins.Stored.{markAt, offsetAt}
+use Rattle.grammar.specs.twins.Stored as stored
+use Rattle.grammar.specs.twins.Positions.{nothing}
+use Rattle.checker.specs.twins.StoredAt.{keyAt, tagAt, numAt, atAt}
+use Rattle.syntax.specs.twins.Standing.{ProgramAt, HeadsAt, DefsFrom}
+use Rattle.syntax.specs.twins.Placed.{DefsIn}
+use Rattle.checker.specs.twins.CheckStored.{programAt, defsAt}
+use Rattle.checker.specs.twins.CheckAt as at
+use Rattle.checker.specs.twins.CheckAt.{noDefs}
 use Rattle.checker.specs.declared.check.Defs.{Defs}
 use Rattle.syntax.proofs.Tracks.{tokenAt}
 use native.Mathlib.Omega.{arith}

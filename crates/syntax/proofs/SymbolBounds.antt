@@ -6,7 +6,7 @@ use native.Mathlib.Omega.{arith}
 use lib.ListN.{length, getD}
 use Rattle.language.specs.Words.{Word, Fit, fits, broken, long, many}
 use Rattle.language.specs.Tokens.{Piece, cut, Kind, symbol, ename, aname, evariable, avariable, plain, tag, kindOf, Text, fitOf, numOf, fitting, symbolsOf, namesOf, Token, tokensFrom, tokens}
-use Rattle.grammar.specs.Positions.{nothing}
+use Rattle.grammar.specs.twins.Positions.{nothing}
 use Rattle.syntax.proofs.Tracks.{tokenAt}
 use Rattle.lexer.proofs.TokenMeaning.{place-most}
 

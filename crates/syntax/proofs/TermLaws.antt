@@ -19,14 +19,14 @@ use Rattle.language.specs.Program.{Param, Prog, Def, find}
 use Rattle.language.specs.Scope.{Scope, withE, withA, pairScope, scopeOf}
 use Rattle.language.specs.Source.{SExp, SCondition, eqaS, conspS, STerm, callS, conditionalS, resultS, SParam, SDef, params, placeOf, functions, progOf}
 use Rattle.language.specs.ProgramCheck.{reachE, reachEa, reachArgs, conditionTwice, termTwice, callVerdict, termVerdict}
-use Rattle.syntax.specs.Standing.{WordAt, NameAt, ExpAt, symbolAt, consAt, ExpsAt, ConditionAt, TermAt, callAt, ifAt, resultAt, ParamsAt, DefAt, defineAt, HeadsAt}
-use Rattle.syntax.specs.Standing as at
+use Rattle.syntax.specs.twins.Standing.{WordAt, NameAt, ExpAt, symbolAt, consAt, ExpsAt, ConditionAt, TermAt, callAt, ifAt, resultAt, ParamsAt, DefAt, defineAt, HeadsAt}
+use Rattle.syntax.specs.twins.Standing as at
 use Rattle.checker.specs.declared.check.Verdict.{Verdict}
 use Rattle.checker.specs.declared.check.Verdict.the-variants.{Fine, Fault}
 use Rattle.checker.specs.declared.check.Walked.{Walked}
 use Rattle.checker.specs.declared.check.Names.{Names}
-use Rattle.checker.specs.CheckAt as check
-use Rattle.checker.specs.CheckAt.{first, judge, ahead, walked, push, expAt, placeAt, termAt}
+use Rattle.checker.specs.twins.CheckAt as check
+use Rattle.checker.specs.twins.CheckAt.{first, judge, ahead, walked, push, expAt, placeAt, termAt}
 use Rattle.syntax.proofs.CheckLaws.{coded, coded-first, coded-judge, ahead-in, is-other, keys, kinds, nums, ats, Reach, argsFit, argsUses, exp-least, exp-most, exp-leaf, exp-opened, exp-past, exp-uses, ea-uses, exps-bounds, args-at}
 use Rattle.syntax.proofs.NameLaws.{Wide, wide-less, push-wide, push-e, push-a, fit-at, uses-at}
 

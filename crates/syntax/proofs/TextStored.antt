@@ -15,17 +15,17 @@ use Rattle.language.specs.Tokens.{cut, tag, Text, symbolsOf, namesOf, Token, to
 use Rattle.language.specs.Reader.{ok}
 use Rattle.language.specs.Source.{SProg, SJob}
 use Rattle.language.specs.Grammar.{program, jobText}
-use Rattle.lexer.specs.declared.got.Got.{Got}
-use Rattle.lexer.specs.declared.got.Got.the-variants.{Past}
-use Rattle.grammar.specs.Positions.{nothing, programP, jobP}
-use Rattle.lexer.specs.Marks.{fitNumber, cellOf, markOf, decode}
-use Rattle.grammar.specs.Stored.{seen, programAt, jobAt}
-use Rattle.grammar.specs.Stored as stored
-use Rattle.lexer.specs.Cutting.{wordAt}
-use Rattle.lexer.specs.Judged.{textOf}
-use Rattle.lexer.specs.Table.{wordIn}
-use Rattle.lexer.specs.Lexed.{shifted, shutAt, shuts, State, starting, cutFrom}
-use Rattle.lexer.proofs.Encoding.{decoded, marked}
+use Rattle.words.specs.declared.got.Got.{Got}
+use Rattle.words.specs.declared.got.Got.the-variants.{Past}
+use Rattle.grammar.specs.twins.Positions.{nothing, programP, jobP}
+use Rattle.words.specs.twins.Marks.{fitNumber, cellOf, markOf, decode}
+use Rattle.grammar.specs.twins.Stored.{seen, programAt, jobAt}
+use Rattle.grammar.specs.twins.Stored as stored
+use Rattle.words.specs.twins.Cutting.{wordAt}
+use Rattle.words.specs.twins.Judged.{textOf}
+use Rattle.lexer.specs.twins.Table.{wordIn}
+use Rattle.lexer.specs.twins.Lexed.{shifted, shutAt, shuts, State, starting, cutFrom}
+use Rattle.words.proofs.Encoding.{decoded, marked}
 use Rattle.lexer.proofs.TableMeaning.{Holds, holds-none}
 use Rattle.syntax.proofs.Tracks.{gotOf, tokenAt}
 use Rattle.syntax.proofs.GrammarTracks.{program-tracks, job-tracks}

@@ -11,9 +11,9 @@ use Rattle.expressions.proofs.Predicates.{All}
 use Rattle.language.specs.Words.{Word, Fit, fits, broken, long, many}
 use Rattle.language.specs.Tokens.{Piece, cut, Kind, symbol, ename, aname, evariable, avariable, plain, kindOf, Text, ofProgram, ofJob, fitOf, numOf, fitting, symbolsOf, namesOf, Token, tokensFrom, tokens}
 use Rattle.language.proofs.TokenNumbers.{KindNumber, TokenNumber, text-numbered}
-use Rattle.grammar.specs.Positions.{nothing}
-use Rattle.lexer.specs.Marks.{fitNumber, cellOf}
-use Rattle.lexer.specs.Lexed.{shutAt, shuts}
+use Rattle.grammar.specs.twins.Positions.{nothing}
+use Rattle.words.specs.twins.Marks.{fitNumber, cellOf}
+use Rattle.lexer.specs.twins.Lexed.{shutAt, shuts}
 use Rattle.syntax.proofs.Tracks.{tokenAt}
 use Rattle.lexer.proofs.TokenMeaning.{key-most}
 use Rattle.syntax.proofs.LexedMeaning.{key-none}

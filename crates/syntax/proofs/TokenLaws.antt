@@ -13,8 +13,8 @@ use Rattle.language.specs.Bytes.{txt}
 use Rattle.language.specs.Words.{Word, same, Fit, fits, broken, long, many}
 use Rattle.language.specs.Tokens.{Piece, plain, kindOf, sameKind, keyIn, keyOf, fixedWords, Text, ofProgram, ofJob, fitOf, Token, token, tokensFrom, tokens, symbolsOf, namesOf, cut}
 use Rattle.language.specs.Reader.{isA}
-use Rattle.grammar.specs.Positions.{nothing}
-use Rattle.syntax.specs.Ends.{opens, closes}
+use Rattle.grammar.specs.twins.Positions.{nothing}
+use Rattle.syntax.specs.twins.Ends.{opens, closes}
 use Rattle.syntax.proofs.Tracks.{tokenAt}
 use Rattle.syntax.proofs.JobLaws.{Fixed}
 use Rattle.syntax.proofs.EndsLaws.{Unbracketed}

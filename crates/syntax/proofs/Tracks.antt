@@ -11,9 +11,9 @@ use Rattle.language.specs.Bytes.{Refusal}
 use Rattle.language.specs.Words.{Fit, fits, broken, long, many}
 use Rattle.language.specs.Tokens.{Token}
 use Rattle.language.specs.Reader.{Res, ok, refused, andThen, Reader, _>>=_, _>>_, give, judged, take, is, wrong, next, pick, choose, manyIn, upTo}
-use Rattle.lexer.specs.declared.got.Got.{Got}
-use Rattle.lexer.specs.declared.got.Got.the-variants.{Past, Refused}
-use Rattle.grammar.specs.Positions.{onPast, judgedAt, nothing, seqP, pickP, takeP, wrongP, chooseP, manyP, upToP}
+use Rattle.words.specs.declared.got.Got.{Got}
+use Rattle.words.specs.declared.got.Got.the-variants.{Past, Refused}
+use Rattle.grammar.specs.twins.Positions.{onPast, judgedAt, nothing, seqP, pickP, takeP, wrongP, chooseP, manyP, upToP}
 use Rattle.syntax.proofs.Advances.{Advance, Advances, manyIn-advances}
 
 -- the readers by position of a list of tokens

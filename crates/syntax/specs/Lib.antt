@@ -1,6 +1,1 @@
-pub mod Standing
-pub mod Placed
-pub mod Ends
-pub mod ReadAnswer
-pub mod Heads
-pub mod PartEnds
+pub mod twins

@@ -1,16 +1,16 @@
-// Where what starts at a token ends, by the brackets (specs/Ends.antt): for who skips a branch.
+// Where what starts at a token ends, by the brackets (specs/twins/Ends.antt): for who skips a branch.
+use cells::cell::low;
+use cells::cell::put;
 use checker::check::either;
 use checker::places::key;
-use lexer::cells::put;
-use lexer::keys::CLOSE;
-use lexer::keys::CLOSE_LIST;
-use lexer::keys::OPEN;
-use lexer::keys::OPEN_LIST;
+use words::keys::CLOSE;
+use words::keys::CLOSE_LIST;
+use words::keys::OPEN;
+use words::keys::OPEN_LIST;
 ghost use mathlib.Core.Path.{_≡_};
 ghost use Prim.Native.Nat.{_-_};
-ghost use Rattle.lexer.specs.Marks.{cellOf};
-ghost use Rattle.checker.specs.StoredAt.{keyAt};
-ghost use Rattle.syntax.specs.Ends.{opens, closes, closeFrom, pastAt, endsFrom};
+ghost use Rattle.checker.specs.twins.StoredAt.{keyAt};
+ghost use Rattle.syntax.specs.twins.Ends.{opens, closes, closeFrom, pastAt, endsFrom};
 
 fn is_open(marks: &[u16], n: usize, i: usize) -> bool
     ensures { λ r. ⌜ r ≡ opens (keyAt (now (marks .entry)) n) i ⌝ }
@@ -64,19 +64,13 @@ pub fn past(marks: &[u16], n: usize, i: usize) -> usize
     i + 1
 }
 
-pub(crate) fn narrow(x: usize) -> u16
-    ensures { λ r. ⌜ r ≡ cellOf x ⌝ }
-{
-    (x % 65536) as u16
-}
-
 // Stores for each token the index past what starts there.
 pub fn mark_ends(marks: &[u16], n: usize, ends: &mut [u16])
     ensures { λ _. ⌜ now (ends .exit) ≡ endsFrom (keyAt (now (marks .entry)) n) n n 0 (now (ends .entry)) ⌝ }
 {
     let mut i: usize = 0;
     while i < n {
-        put(ends, i, narrow(past(marks, n, i)));
+        put(ends, i, low(past(marks, n, i)));
         i += 1;
     }
 }

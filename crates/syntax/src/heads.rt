@@ -1,13 +1,13 @@
 // Where the definitions of an accepted program stand.
-use crate::ends::narrow;
+use cells::cell::low;
+use cells::cell::put;
 use checker::check::index;
-use lexer::cells::put;
 use programs::check_program::definitions;
 ghost use mathlib.Core.Path.{_≡_};
 ghost use Prim.Native.Nat.{_-_};
-ghost use Rattle.checker.specs.CheckAt.{noDefs};
-ghost use Rattle.checker.specs.CheckStored.{defsAt};
-ghost use Rattle.syntax.specs.Heads.{headsFrom};
+ghost use Rattle.checker.specs.twins.CheckAt.{noDefs};
+ghost use Rattle.checker.specs.twins.CheckStored.{defsAt};
+ghost use Rattle.syntax.specs.twins.Heads.{headsFrom};
 
 // The first `count` indices, as cells.
 fn store(from: &[usize], count: usize, heads: &mut [u16])
@@ -15,13 +15,13 @@ fn store(from: &[usize], count: usize, heads: &mut [u16])
 {
     let mut j: usize = 0;
     while j < count {
-        put(heads, j, narrow(index(from, j)));
+        put(heads, j, low(index(from, j)));
         j += 1;
     }
 }
 
 // Stores for each definition of the n tokens, in order, the index of its name, and answers how many they are: "a program 64 definitions".
-// The parameters start two tokens behind the name, the body behind the bracket that closes them (specs/Placed.antt: DefIn).
+// The parameters start two tokens behind the name, the body behind the bracket that closes them (specs/twins/Placed.antt: DefIn).
 pub fn store_heads(marks: &[u16], nums: &[u16], ats: &[u16], n: usize, heads: &mut [u16]) -> usize
     ensures { λ r. ⌜ (let ds = defsAt (now (marks .entry)) (now (nums .entry)) (now (ats .entry)) n 64 noDefs in (r ≡ ds .count) × (now (heads .exit) ≡ headsFrom (ds .heads) (ds .count) 0 (now (heads .entry)))) ⌝ }
 {

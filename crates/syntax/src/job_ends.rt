@@ -3,8 +3,8 @@ use crate::ends::past;
 use checker::places::ahead;
 ghost use mathlib.Core.Path.{_≡_};
 ghost use Prim.Native.Nat.{_-_};
-ghost use Rattle.checker.specs.StoredAt.{keyAt};
-ghost use Rattle.syntax.specs.PartEnds.{partEnds};
+ghost use Rattle.checker.specs.twins.StoredAt.{keyAt};
+ghost use Rattle.syntax.specs.twins.PartEnds.{partEnds};
 
 // The inputs stand from the fifth token up to `ins`, the output from `from` up to `out`, the non-equalities from `sides` up to
 // `neqs`: the three ends are those of closing brackets.

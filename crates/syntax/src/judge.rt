@@ -4,10 +4,10 @@ use checker::check::Verdict;
 use grammar::definitions::program;
 use grammar::jobs::job;
 use job_checker::check_job::check_job;
-use lexer::got::Got;
 use programs::check_program::check_program;
+use words::got::Got;
 ghost use mathlib.Core.Path.{_≡_};
-ghost use Rattle.syntax.specs.ReadAnswer.{verdictGot, programJudged, jobJudged};
+ghost use Rattle.syntax.specs.twins.ReadAnswer.{verdictGot, programJudged, jobJudged};
 
 // The check's verdict on what was read up to `k`.
 fn after_check(v: Verdict, k: usize) -> Got

@@ -3,7 +3,7 @@ use checker::places::ahead;
 use checker::places::offset;
 use job_checker::check_job::numeral;
 ghost use mathlib.Core.Path.{_≡_};
-ghost use Rattle.syntax.specs.PartEnds.{jobNumerals};
+ghost use Rattle.syntax.specs.twins.PartEnds.{jobNumerals};
 
 pub struct Numerals {
     pub steps: usize,

@@ -3,13 +3,13 @@ use Prim.Native.Nat.{ℕ}
 use mathlib.Core.Path.{_≡_, refl, ap, _∙_, sym}
 use mathlib.Core.Bool.{Bool, true, false}
 use mathlib.Core.List.{List}
-use Rattle.lexer.specs.Cutting.{bytesAt}
-use Rattle.lexer.specs.Lexed.{State, Out}
+use Rattle.words.specs.twins.Cutting.{bytesAt}
+use Rattle.lexer.specs.twins.Lexed.{State, Out}
 use Rattle.lent.specs.Storage.{zeros, roomy}
-use Rattle.texts.specs.ReadCells.{ReadAnswer, ReadOut, untouched, cleared, afterCut, afterBytes, ifRoomy, programCut, programCells, jobCut, jobCells}
-use Rattle.syntax.specs.ReadAnswer.{programJudged, jobJudged}
-use Rattle.lexer.specs.declared.got.Got.{Got}
-use Rattle.lexer.specs.declared.got.Got.the-variants.{Past, Refused}
+use Rattle.texts.specs.twins.ReadCells.{ReadAnswer, ReadOut, untouched, cleared, afterCut, afterBytes, ifRoomy, programCut, programCells, jobCut, jobCells}
+use Rattle.syntax.specs.twins.ReadAnswer.{programJudged, jobJudged}
+use Rattle.words.specs.declared.got.Got.{Got}
+use Rattle.words.specs.declared.got.Got.the-variants.{Past, Refused}
 use Rattle.lexer.specs.declared.lexer.Cut.{Cut}
 use Rattle.lent.specs.declared.read.Read.the-variants.{Accepted, Refused as Rejected}
 

@@ -12,14 +12,14 @@ use Rattle.language.specs.Tokens.{symbolsOf}
 use Rattle.language.specs.Words.{Word}
 use Rattle.language.specs.JobCheck.{Tool, lister, runner}
 use Rattle.language.specs.Reading.{readProgram, readJob}
-use Rattle.lexer.specs.Cutting.{bytesAt}
-use Rattle.lexer.specs.Lexed.{State, starting, cutFrom}
-use Rattle.syntax.specs.ReadAnswer.{resGot, programJudged, jobJudged}
+use Rattle.words.specs.twins.Cutting.{bytesAt}
+use Rattle.lexer.specs.twins.Lexed.{State, starting, cutFrom}
+use Rattle.syntax.specs.twins.ReadAnswer.{resGot, programJudged, jobJudged}
 use Rattle.lent.specs.Storage.{zeros, roomy}
-use Rattle.texts.specs.ReadCells.{ReadAnswer, ReadOut, untouched, cleared, kept, afterCut, afterBytes, ifRoomy, programCut, programCells, jobCut, jobCells, readAs, programReading, toolOf, jobReading, ProgramLeft}
-use Rattle.lexer.specs.declared.got.Got.{Got}
+use Rattle.texts.specs.twins.ReadCells.{ReadAnswer, ReadOut, untouched, cleared, kept, afterCut, afterBytes, ifRoomy, programCut, programCells, jobCut, jobCells, readAs, programReading, toolOf, jobReading, ProgramLeft}
+use Rattle.words.specs.declared.got.Got.{Got}
 use Rattle.lent.specs.declared.read.Read.{Read}
-use Rattle.lexer.specs.declared.got.Got.the-variants.{Past, Refused}
+use Rattle.words.specs.declared.got.Got.the-variants.{Past, Refused}
 use Rattle.lexer.proofs.CutLengths.{SameLengths, cut-lengths}
 use Rattle.syntax.proofs.JobLaws.{isRunner}
 use Rattle.texts.proofs.ReadLaws.{program-short, program-bytes, job-short, job-bytes}

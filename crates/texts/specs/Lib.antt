@@ -1,1 +1,1 @@
-pub mod ReadCells
+pub mod twins

@@ -4,15 +4,15 @@ use lent::clear::clear;
 use lent::clear::clear_tokens;
 use lent::read::Read;
 use lent::read::long_enough;
-use lexer::bytes::sound_bytes;
-use lexer::got::Got;
 use lexer::lexer::cut_tokens;
 use syntax::judge::judge_job;
+use words::bytes::sound_bytes;
+use words::got::Got;
 ghost use mathlib.Core.Path.{_≡_};
 ghost use mathlib.Core.Bool.{true};
-ghost use Rattle.lexer.specs.Lexed.{cutFrom, starting};
-ghost use Rattle.texts.specs.ReadCells.{ReadOut, afterCut, jobCells, jobReading, ProgramLeft};
-ghost use Rattle.syntax.specs.ReadAnswer.{jobJudged};
+ghost use Rattle.lexer.specs.twins.Lexed.{cutFrom, starting};
+ghost use Rattle.texts.specs.twins.ReadCells.{ReadOut, afterCut, jobCells, jobReading, ProgramLeft};
+ghost use Rattle.syntax.specs.twins.ReadAnswer.{jobJudged};
 ghost use Rattle.language.specs.Source.{SProg};
 
 // "A job has at most 8,192 bytes".

@@ -4,15 +4,15 @@ use lent::clear::clear;
 use lent::clear::clear_tokens;
 use lent::read::Read;
 use lent::read::long_enough;
-use lexer::bytes::sound_bytes;
-use lexer::got::Got;
 use lexer::lexer::cut_tokens;
 use syntax::judge::judge_program;
+use words::bytes::sound_bytes;
+use words::got::Got;
 ghost use mathlib.Core.Path.{_≡_};
 ghost use mathlib.Core.Bool.{false};
-ghost use Rattle.lexer.specs.Lexed.{cutFrom, starting};
-ghost use Rattle.texts.specs.ReadCells.{ReadOut, afterCut, programReading};
-ghost use Rattle.syntax.specs.ReadAnswer.{programJudged};
+ghost use Rattle.lexer.specs.twins.Lexed.{cutFrom, starting};
+ghost use Rattle.texts.specs.twins.ReadCells.{ReadOut, afterCut, programReading};
+ghost use Rattle.syntax.specs.twins.ReadAnswer.{programJudged};
 
 // "A program has at most 32,768 bytes".
 const BYTES: usize = 32768;

@@ -21,24 +21,24 @@ use Rattle.semantics.specs.Configuration.{substOfEnv, state, withEnv, nodesStat
 use Rattle.semantics.specs.Trace.{Successors, terminal, called, branches, configuration, successorsOf, successors}
 use Rattle.semantics.proofs.Scopes.{WellScoped, scoped-call}
 use Rattle.sets.specs.Cells.{atomicCode}
-use Rattle.heap.specs.Moving.{Left, left}
+use Rattle.heap.specs.twins.Moving.{Left, left}
 use Rattle.heap.specs.declared.configuration.Configuration.{Configuration as InCells}
 use Rattle.runs.proofs.RunLaws.{Below, below-self}
-use Rattle.linking.specs.Code.{link, linkAt}
-use Rattle.linking.specs.Linked.{symLinked, eLinked, aLinked, consLinked, TermLinked, callLinked, sameLinked, testLinked, resultLinked, ProgramLinked}
+use Rattle.linking.specs.twins.Code.{link, linkAt}
+use Rattle.linking.specs.twins.Linked.{symLinked, eLinked, aLinked, consLinked, TermLinked, callLinked, sameLinked, testLinked, resultLinked, ProgramLinked}
 use Rattle.constants.proofs.ConstantLaws.{Constants}
-use Rattle.values.specs.Names.{namesFrom}
-use Rattle.calls.specs.Calls.{calledTo}
+use Rattle.values.specs.twins.Names.{namesFrom}
+use Rattle.calls.specs.twins.Calls.{calledTo}
 use Rattle.values.proofs.StateLaws.{isNone, HoldsPair, Stands, Leads}
 use Rattle.values.proofs.PairLaws.{base-is, entries-few, entries-are}
 use Rattle.calls.proofs.CallLeads.{call-leads}
-use Rattle.atoms.specs.Atoms.{sidesAt}
+use Rattle.atoms.specs.twins.Atoms.{sidesAt}
 use Rattle.atoms.proofs.AtomLaws.{sideOf, sides-mean}
 use Rattle.atoms.proofs.BranchLaws.{branches-mean}
 use Rattle.atoms.proofs.TakeLaws.{equal-leads, unequal-leads, same-successors}
-use Rattle.looking.specs.Looking.{lookAt}
+use Rattle.looking.specs.twins.Looking.{lookAt}
 use Rattle.pairs.proofs.BranchLaws.{stands-look, consp-lead}
-use Rattle.tracing.specs.Asking.{AskLeft, askedAt, isEnd, isCall, branchesAsked, takenAs}
+use Rattle.tracing.specs.twins.Asking.{AskLeft, askedAt, isEnd, isCall, branchesAsked, takenAs}
 use Rattle.tracing.specs.declared.ask.Asked.{Asked}
 use Rattle.tracing.specs.declared.ask.Asked.the-variants.{End, Call, Same, Test}
 

@@ -11,7 +11,7 @@ use looking::look::Tested;
 use looking::look::look;
 use pairs::branch::branches_of;
 ghost use mathlib.Core.Path.{_≡_};
-ghost use Rattle.tracing.specs.Asking.{askLeft, askedAt, isCall, branchesAsked};
+ghost use Rattle.tracing.specs.twins.Asking.{askLeft, askedAt, isCall, branchesAsked};
 
 // End: an expression, whose value is the output. Call: a call. Same: an `eqa?` of these two items. Test: a `cons?` on this.
 pub enum Asked {

@@ -10,8 +10,8 @@ use pairs::branch::take_true;
 use values::names::names_from;
 ghost use mathlib.Core.Path.{_≡_};
 ghost use mathlib.Core.Bool.{Bool};
-ghost use Rattle.heap.specs.Moving.{left as leaves};
-ghost use Rattle.tracing.specs.Asking.{trueTaken, falseTaken, takenAs};
+ghost use Rattle.heap.specs.twins.Moving.{left as leaves};
+ghost use Rattle.tracing.specs.twins.Asking.{trueTaken, falseTaken, takenAs};
 
 fn take_yes(
     code: &[u16; 24582],

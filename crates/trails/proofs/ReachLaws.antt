@@ -9,7 +9,7 @@ use Rattle.language.specs.Program.{Prog}
 use Rattle.semantics.specs.Configuration.{Configuration}
 use Rattle.semantics.specs.Trace.{Successors, terminal, called, branches, successors}
 use Rattle.semantics.specs.Tree.{Node, afterCall, afterDecision}
-use Rattle.semantics.specs.Backtrack.{Choice, trailOf}
+use Rattle.semantics.proofs.Backtrack.{Choice, trailOf}
 use Rattle.semantics.proofs.Reaching.{branchOf, Reaches, here, byCall, byDecision}
 
 -- a decision is made at the node

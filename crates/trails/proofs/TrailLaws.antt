@@ -1,4 +1,4 @@
--- The path in cells is the path of semantics/specs/Backtrack.antt.
+-- The path in cells is the path of semantics/proofs/Backtrack.antt.
 use Prim.Native.Nat.{ℕ, zero, suc, _+_, _-_, _≤_, _<_}
 use mathlib.Core.Path.{_≡_, refl, ap, subst, _∙_, sym as inv}
 use mathlib.Core.Bool.{Bool, true, false, cond}
@@ -8,8 +8,8 @@ use lib.Dec.{leb}
 use lib.ListN.{length, getD, set, drop, length-append}
 use lib.Seq.{getD-at, set-at, drop-cons}
 use borrow.Author.Tests.{le-leb, lt-leb, eq-eqb, ne-eqb}
-use Rattle.semantics.specs.Backtrack.{Choice, trailOf, backtrackTo, backtrack}
-use Rattle.trails.specs.TrailCells.{choiceCell, takenAt, pendingAt, latestPending, pathLeft, backtracked}
+use Rattle.semantics.proofs.Backtrack.{Choice, trailOf, backtrackTo, backtrack}
+use Rattle.trails.specs.twins.TrailCells.{choiceCell, takenAt, pendingAt, latestPending, pathLeft, backtracked}
 
 -- the loop of `latest_pending`
 module _ (path : List ℕ) where

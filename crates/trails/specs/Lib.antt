@@ -1,1 +1,1 @@
-pub mod TrailCells
+pub mod twins

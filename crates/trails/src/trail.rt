@@ -1,12 +1,12 @@
 // The path from the start to a node: a cell for each decision, the first one first. It has 1 where the true branch is taken, and 2
 // more while the false branch beside it is untaken.
-use sets::cell;
+use cells::cell;
 ghost use mathlib.Core.Path.{_≡_};
 ghost use mathlib.Core.Bool.{Bool};
 ghost use Prim.Native.Nat.{min, _+_};
 ghost use lib.Dec.{leb};
 ghost use lib.ListN.{getD};
-ghost use Rattle.trails.specs.TrailCells.{choiceCell, pushed, pathLeft, takenAt, pendingAt, latestPending, backtracked};
+ghost use Rattle.trails.specs.twins.TrailCells.{choiceCell, pushed, pathLeft, takenAt, pendingAt, latestPending, backtracked};
 
 fn choice_cell(taken: bool, pending: bool) -> u16
     ensures { λ r. ⌜ r ≡ choiceCell taken pending ⌝ }

@@ -1,3 +1,1 @@
-pub mod Finding
-pub mod States
-pub mod Choices
+pub mod twins

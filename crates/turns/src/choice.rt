@@ -8,7 +8,7 @@ use replay::position::Bounds;
 use saving::head::Node;
 ghost use mathlib.Core.Path.{_≡_};
 ghost use mathlib.Core.Bool.{Bool};
-ghost use Rattle.turns.specs.Choices.{isBoth, firstBranch, isResult, isDeep, isSpent, wayOn};
+ghost use Rattle.turns.specs.twins.Choices.{isBoth, firstBranch, isResult, isDeep, isSpent, wayOn};
 
 // Call: a call. Choice: a condition. Leaf: none, as at an end and N deep.
 pub enum Way {

@@ -1,8 +1,8 @@
 // What a walk has found, and what it comes to.
+use cells::cell;
 use lines::line::Lines;
-use sets::cell;
 ghost use mathlib.Core.Path.{_≡_};
-ghost use Rattle.turns.specs.Finding.{walked, nothingFound, counted, cutOff, withLines};
+ghost use Rattle.turns.specs.twins.Finding.{walked, nothingFound, counted, cutOff, withLines};
 
 // The transitions made, the lines, whether a path was cut.
 pub struct Found {

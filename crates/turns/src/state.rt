@@ -9,7 +9,7 @@ use lines::end::Ended;
 use replay::position::Position;
 use replay::position::moved_from;
 ghost use mathlib.Core.Path.{_≡_};
-ghost use Rattle.turns.specs.States.{stateAt, afterEnd, cutAt, afterMove};
+ghost use Rattle.turns.specs.twins.States.{stateAt, afterEnd, cutAt, afterMove};
 
 // What has been found stands first, where it also stands in a `Stop`: a field of one case that lay across two of the other would be moved byte by byte.
 pub struct State {

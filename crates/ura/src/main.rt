@@ -6,8 +6,9 @@
 //
 // A listing or a run is printed as 01 has it, or the refusal. "A file that cannot be read counts as empty." Where standard output does not
 // take all of it, standard error says so.
-mod words;
+mod arguments;
 
+use cells::part::part;
 use libc::STDERR_FILENO;
 use pages::files::JOB;
 use pages::files::PROGRAM;
@@ -15,7 +16,6 @@ use pages::files::read_file;
 use pages::output::Written;
 use pages::output::list_texts;
 use pages::output::run_texts;
-use pages::part::part;
 
 // Lines that are missing must not go unnoticed: a loader is released from the list.
 fn report(written: Written) {
@@ -42,8 +42,8 @@ fn of_files(runs: bool) {
     let mut job_space = [0u8; JOB];
     let program: &mut [u8] = &mut program_space;
     let job: &mut [u8] = &mut job_space;
-    let p = words::read_argument(2, program);
-    let j = words::read_argument(3, job);
+    let p = arguments::read_argument(2, program);
+    let j = arguments::read_argument(3, job);
     if runs {
         report(run_texts(part(program, 0, p), part(job, 0, j)));
         return;
@@ -58,11 +58,11 @@ fn main() {
         return;
     }
     if count == 4 {
-        if words::is_argument(1, b"list") {
+        if arguments::is_argument(1, b"list") {
             of_files(false);
             return;
         }
-        if words::is_argument(1, b"run") {
+        if arguments::is_argument(1, b"run") {
             of_files(true);
             return;
         }

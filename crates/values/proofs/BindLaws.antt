@@ -8,15 +8,15 @@ use lib.Dec.{ltb, leb}
 use lib.ListN.{length, set, length-set, length-append}
 use borrow.Author.Tests.{lt-ltb, le-ltb, lt-leb, ltb-true, ltb-false}
 use Rattle.expressions.specs.Expression.{Exp}
-use Rattle.heap.specs.Entries.{entry, entryKnown, entryFrom, entryTo, pushed, PushAnswer, pushAnswer}
+use Rattle.heap.specs.twins.Entries.{entry, entryKnown, entryFrom, entryTo, pushed, PushAnswer, pushAnswer}
 use Rattle.heap.specs.declared.entry.Pushed.the-variants.{Done}
 use Rattle.runs.proofs.RunLaws.{Below}
 use Rattle.heap.proofs.HeapLaws.{Holds}
 use Rattle.heap.proofs.KnownLaws.{KnownOf, unknown}
 use Rattle.heap.proofs.FrameLaws.{Held, entry-length, entry-before, entry-behind, entry-known, entry-from, entry-to}
 use Rattle.heap.proofs.FrameLaws as frame
-use Rattle.linking.specs.Places.{withValue}
-use Rattle.values.specs.Binding.{boundAt}
+use Rattle.linking.specs.twins.Places.{withValue}
+use Rattle.values.specs.twins.Binding.{boundAt}
 
 abbrev SameEntry : List ℕ → List ℕ → ℕ → Type 0
 SameEntry g f j = (entryFrom g j ≡ entryFrom f j) × (entryTo g j ≡ entryTo f j) × (entryKnown g j ≡ entryKnown f j)

@@ -12,7 +12,7 @@ use Rattle.language.specs.Program.{result, Def, Prog, find}
 use Rattle.language.specs.Scope.{scopeOf}
 use Rattle.language.specs.WellFormed.{distinctParams, wellFormedTerm, wellFormedDefs, wellFormed}
 use Rattle.language.proofs.Tests.{and-three}
-use Rattle.linking.specs.Linked.{TermLinked, reach, BodiesLinked, moreBodies, ProgramLinked}
+use Rattle.linking.specs.twins.Linked.{TermLinked, reach, BodiesLinked, moreBodies, ProgramLinked}
 use Rattle.linking.proofs.PlaceLaws.{distinct-reach}
 
 pub body-linked : {p : Prog} {bodies : ℕ → ℕ} {code : List ℕ} (k : ℕ) (qs : Prog) (f : ℕ) (d : Def) → BodiesLinked p bodies code k qs → f < length qs →

@@ -15,23 +15,23 @@ use Rattle.expressions.specs.Substitution.{Substitution, apply}
 use Rattle.language.specs.Program.{Param, pe, pa}
 use Rattle.semantics.specs.Configuration.{substOfEnv}
 use Rattle.sets.specs.Cells.{cells}
-use Rattle.sets.specs.Fill.{FillAnswer, fillAnswer}
+use Rattle.sets.specs.twins.Fill.{FillAnswer, fillAnswer}
 use Rattle.sets.specs.declared.fill.Filled.{Filled}
 use Rattle.sets.specs.declared.fill.Filled.the-variants.{Done, Over as FilledOver}
 use Rattle.sets.proofs.CellLaws.{cells-nodes}
-use Rattle.runs.specs.Runs.{written, run, cellsAt}
-use Rattle.heap.specs.Entries.{entryFrom, entryTo}
+use Rattle.runs.specs.twins.Runs.{written, run, cellsAt}
+use Rattle.heap.specs.twins.Entries.{entryFrom, entryTo}
 use Rattle.runs.proofs.RunLaws.{Below, below-self, below-sets, length-cellsAt, written-over}
 use Rattle.heap.proofs.HeapLaws.{Holds, holds-below}
 use Rattle.heap.proofs.FrameLaws.{Held}
-use Rattle.linking.specs.Code.{link, linkAt}
-use Rattle.constants.specs.Table.{constantAt}
+use Rattle.linking.specs.twins.Code.{link, linkAt}
+use Rattle.constants.specs.twins.Table.{constantAt}
 use Rattle.constants.proofs.ConstantLaws.{Constants}
-use Rattle.linking.specs.Linked.{placeIn, ExpLinked, symLinked, eLinked, aLinked, consLinked}
-use Rattle.linking.specs.Places.{envOf}
+use Rattle.linking.specs.twins.Linked.{placeIn, ExpLinked, symLinked, eLinked, aLinked, consLinked}
+use Rattle.linking.specs.twins.Places.{envOf}
 use Rattle.linking.proofs.AgreeLaws.{exp-goes-on}
 use Rattle.linking.proofs.PlaceLaws.{lookup-e, lookup-a}
-use Rattle.values.specs.Values.{entryAt, placeAt, onwardFill, tokenWritten, tokensWritten, madeOf, valueAt}
+use Rattle.values.specs.twins.Values.{entryAt, placeAt, onwardFill, tokenWritten, tokensWritten, madeOf, valueAt}
 use Rattle.values.specs.declared.value.Valued.the-variants.{Over}
 use Rattle.values.proofs.ValueLaws.{held-at, Typed, typed-length, atom-typed, Known, two-parts, then, nothing-token, cell-token, tokens-mean, ValuedAs, valued-name, valued-constant, value-means}
 

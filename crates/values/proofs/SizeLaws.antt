@@ -6,12 +6,12 @@ use native.Mathlib.Omega.{arith}
 use lib.ListN.{length}
 use borrow.Author.Tests.{lt-ltb, le-ltb}
 use Rattle.expressions.specs.Expression.{Exp, nodesAll}
-use Rattle.heap.specs.Entries.{nodesFrom}
+use Rattle.heap.specs.twins.Entries.{nodesFrom}
 use Rattle.heap.specs.declared.configuration.Configuration.{Configuration}
 use Rattle.heap.specs.declared.configuration.Moved.the-variants.{On, Over}
 use Rattle.heap.proofs.FrameLaws.{Held}
 use Rattle.heap.proofs.NodeLaws.{held-nodes}
-use Rattle.values.specs.Sizes.{keptNodes, sizedAs}
+use Rattle.values.specs.twins.Sizes.{keptNodes, sizedAs}
 
 module _ {h f : List ℕ} {used : ℕ} {ts : List Exp} (held : Held h used f 0 ts) (few : length ts ≤ 4120) where
   pub kept-is : (neqs : ℕ) → keptNodes (length ts) neqs f ≡ min (nodesAll ts) 4097 + 2 * min neqs 4097

@@ -22,15 +22,15 @@ use Rattle.semantics.specs.Environment as environment
 use Rattle.semantics.specs.Configuration.{state, nodesValues, nodesState, Configuration}
 use Rattle.semantics.proofs.Environments.{Bound}
 use Rattle.semantics.proofs.Scopes.{Covers}
-use Rattle.heap.specs.Moving.{Left}
+use Rattle.heap.specs.twins.Moving.{Left}
 use Rattle.heap.specs.declared.configuration.Configuration.{Configuration as InCells}
 use Rattle.heap.specs.declared.configuration.Moved.the-variants.{On, Over}
 use Rattle.runs.proofs.RunLaws.{Below}
 use Rattle.heap.proofs.HeapLaws.{nodes-positive}
 use Rattle.heap.proofs.FrameLaws.{Held}
 use Rattle.heap.proofs.PartLaws.{nodes-joined}
-use Rattle.linking.specs.Linked.{placeIn, TermLinked}
-use Rattle.linking.specs.Places.{envOf}
+use Rattle.linking.specs.twins.Linked.{placeIn, TermLinked}
+use Rattle.linking.specs.twins.Places.{envOf}
 use Rattle.values.proofs.ValueLaws.{Typed, noneTyped, eTyped, aTyped, Known, AllKnown}
 
 -- "A branch that contradicts is no transition."

@@ -14,27 +14,27 @@ use Rattle.expressions.specs.Substitution.{Substitution, apply, applyAtomic}
 use Rattle.language.specs.Program.{Param, pe, pa, atomOf}
 use Rattle.semantics.specs.Configuration.{ExpEnv, substOfEnv}
 use Rattle.sets.specs.Cells.{cells, symbolCode, atomicCode}
-use Rattle.sets.specs.Fill.{FillAnswer, fillAnswer}
+use Rattle.sets.specs.twins.Fill.{FillAnswer, fillAnswer}
 use Rattle.sets.specs.declared.fill.Filled.{Filled}
 use Rattle.sets.specs.declared.fill.Filled.the-variants.{Done, Over as FilledOver}
 use Rattle.sets.proofs.CellLaws.{cells-nodes}
-use Rattle.runs.specs.Runs.{cellsAt, run, written, appended}
-use Rattle.heap.specs.Entries.{entryKnown, entryFrom, entryTo}
+use Rattle.runs.specs.twins.Runs.{cellsAt, run, written, appended}
+use Rattle.heap.specs.twins.Entries.{entryKnown, entryFrom, entryTo}
 use Rattle.runs.proofs.RunLaws.{Below, below-self, below-sets, run-below, length-cellsAt, written-done, sets-append}
 use Rattle.heap.proofs.HeapLaws.{Holds, holds-below, sets-cells}
 use Rattle.heap.proofs.KnownLaws.{KnownOf, unknown, known-head}
 use Rattle.heap.proofs.FrameLaws.{Held}
 use Rattle.heap.proofs.FrameLaws as frame
-use Rattle.linking.specs.Code.{link, linkAt}
-use Rattle.constants.specs.Table.{constantAt}
+use Rattle.linking.specs.twins.Code.{link, linkAt}
+use Rattle.constants.specs.twins.Table.{constantAt}
 use Rattle.constants.proofs.ConstantLaws.{Constants, closed-cells}
 use Rattle.linking.specs.declared.code.Link.{Link}
-use Rattle.constants.specs.Laying.{namedIn, cellsOf}
-use Rattle.linking.specs.Linked.{placeIn, ExpLinked, symLinked, eLinked, aLinked, consLinked}
-use Rattle.linking.specs.Places.{envOf}
+use Rattle.constants.specs.twins.Laying.{namedIn, cellsOf}
+use Rattle.linking.specs.twins.Linked.{placeIn, ExpLinked, symLinked, eLinked, aLinked, consLinked}
+use Rattle.linking.specs.twins.Places.{envOf}
 use Rattle.linking.proofs.AgreeLaws.{exp-goes-on}
 use Rattle.linking.proofs.PlaceLaws.{lookup-e, lookup-a}
-use Rattle.values.specs.Values.{entryAt, placeAt, onwardFill, tokenWritten, tokensWritten, ValueLeft, valueLeft, madeAt, headEndAt, knownPair, madeOf, valueAt}
+use Rattle.values.specs.twins.Values.{entryAt, placeAt, onwardFill, tokenWritten, tokensWritten, ValueLeft, valueLeft, madeAt, headEndAt, knownPair, madeOf, valueAt}
 use Rattle.values.specs.declared.value.Valued.{Valued}
 use Rattle.values.specs.declared.value.Valued.the-variants.{At, Over}
 

@@ -4,11 +4,11 @@ use mathlib.Core.Path.{_≡_}
 use mathlib.Core.List.{List, [], _∷_}
 use lib.ListN.{set}
 use native.Mathlib.Omega.{arith}
-use Rattle.sets.specs.Fill.{FillAnswer, fillAnswer}
+use Rattle.sets.specs.twins.Fill.{FillAnswer, fillAnswer}
 use Rattle.sets.specs.declared.fill.Filled.the-variants.{Done, Over}
-use Rattle.runs.specs.Runs.{written}
+use Rattle.runs.specs.twins.Runs.{written}
 use Rattle.runs.proofs.RunLaws.{written-over, written-done}
-use Rattle.values.specs.Values.{onwardFill, tokenWritten, tokensWritten}
+use Rattle.values.specs.twins.Values.{onwardFill, tokenWritten, tokensWritten}
 
 none-left : (c j : ℕ) → c ≤ j → c - j ≡ 0
 none-left c j l = omega arith

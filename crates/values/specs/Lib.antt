@@ -1,4 +1,1 @@
-pub mod Names
-pub mod Sizes
-pub mod Values
-pub mod Binding
+pub mod twins

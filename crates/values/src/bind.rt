@@ -3,8 +3,8 @@ use crate::tokens::place_at;
 use heap::entry::Pushed;
 use heap::entry::push_entry;
 ghost use mathlib.Core.Path.{_≡_};
-ghost use Rattle.heap.specs.Entries.{pushAnswer};
-ghost use Rattle.values.specs.Binding.{atLeast, boundAt};
+ghost use Rattle.heap.specs.twins.Entries.{pushAnswer};
+ghost use Rattle.values.specs.twins.Binding.{atLeast, boundAt};
 
 // As many entries as there were, or the new one's.
 fn at_least(entries: usize, p: Pushed) -> Pushed

@@ -1,10 +1,10 @@
 // "21 over 4,096 nodes: .. after a transition".
+use cells::cell;
 use heap::configuration::Configuration;
 use heap::configuration::Moved;
 use heap::entry;
-use sets::cell;
 ghost use mathlib.Core.Path.{_≡_};
-ghost use Rattle.values.specs.Sizes.{keptNodes, sizedAs};
+ghost use Rattle.values.specs.twins.Sizes.{keptNodes, sizedAs};
 
 // The nodes of the first n entries, and "2 for each non-equality".
 pub fn kept_nodes(frame: &[u16; 12360], n: usize, neqs: usize) -> usize

@@ -1,28 +1,22 @@
 // The cells that tokens give, written one behind the other.
+use cells::cell;
 use linking::code::CELL;
 use linking::code::NAME;
 use linking::code::link_at;
 use runs::run;
-use sets::cell;
 use sets::fill::Filled;
 ghost use mathlib.Core.Path.{_≡_};
 ghost use Prim.Native.Nat.{_-_};
 ghost use mathlib.Core.List.{_∷_, []};
-ghost use Rattle.sets.specs.Fill.{fillAnswer};
-ghost use Rattle.runs.specs.Runs.{written};
-ghost use Rattle.values.specs.Values.{entryAt, placeAt, tokenWritten, tokensWritten};
+ghost use Rattle.sets.specs.twins.Fill.{fillAnswer};
+ghost use Rattle.runs.specs.twins.Runs.{written};
+ghost use Rattle.values.specs.twins.Values.{entryAt, placeAt, tokenWritten, tokensWritten};
 
 // Where an entry's value stands, and what is known of it.
 pub struct Place {
     pub from: usize,
     pub to: usize,
     pub known: u16,
-}
-
-fn wide(x: u16) -> usize
-    ensures { λ r. ⌜ r ≡ x ⌝ }
-{
-    x as usize
 }
 
 // The entry i; nothing past the last one.
@@ -34,8 +28,8 @@ pub fn entry_at(frame: &[u16; 12360], i: usize) -> Place
         let to = frame[3 * i + 2];
         let known = frame[3 * i];
         return Place {
-            from: wide(from),
-            to: wide(to),
+            from: cell::wide(from),
+            to: cell::wide(to),
             known: known,
         };
     }
@@ -50,7 +44,7 @@ pub fn entry_at(frame: &[u16; 12360], i: usize) -> Place
 pub fn place_at(base: usize, place: u16) -> usize
     ensures { λ r. ⌜ r ≡ placeAt base place ⌝ }
 {
-    cell::least(base, 4120) + wide(place)
+    cell::least(base, 4120) + cell::wide(place)
 }
 
 fn push_cell(heap: &mut [u16; 65535], c: u16, k: usize) -> Filled

@@ -2,15 +2,14 @@
 use crate::tokens::entry_at;
 use crate::tokens::place_at;
 use crate::tokens::push_tokens;
+use cells::cell;
 use constants::table::constant_at;
-use heap::entry;
 use linking::code::NAME;
 use linking::code::link_at;
-use sets::cell;
 use sets::fill::Filled;
 ghost use mathlib.Core.Path.{_≡_};
 ghost use Prim.Native.Nat.{_-_, _≤_, _<_};
-ghost use Rattle.values.specs.Values.{madeAt, headEndAt, knownPair, madeOf, valueLeft, valueAt};
+ghost use Rattle.values.specs.twins.Values.{madeAt, headEndAt, knownPair, madeOf, valueLeft, valueAt};
 
 // At: the range of the value, what is used of the heap then, and what is known of the value (heap::entry). Over: the heap has no room.
 pub enum Valued {
@@ -43,7 +42,7 @@ fn head_end(code: &[u16; 24582], i: usize, past: usize) -> usize
     ensures { λ r. ⌜ (r ≡ headEndAt (now (code .entry)) i past) × (i ≤ r) × (r ≤ past) ⌝ }
 {
     let l = link_at(code, i + 2);
-    let j = entry::wide(l.past);
+    let j = cell::wide(l.past);
     if j < i { i } else { cell::least(j, past) }
 }
 
@@ -53,7 +52,7 @@ fn known_head(used: usize, k: usize) -> u16
 {
     let n = cell::less(k, used);
     if n < 32768 {
-        return 2 * entry::narrow(cell::less(n, 1));
+        return 2 * cell::narrow(cell::less(n, 1));
     }
     0
 }
@@ -135,5 +134,5 @@ pub fn value(
             known: 0,
         };
     }
-    make(code, heap, frame, base, used, i, entry::wide(past))
+    make(code, heap, frame, base, used, i, cell::wide(past))
 }

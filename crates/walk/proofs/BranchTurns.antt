@@ -4,25 +4,25 @@ use mathlib.Core.Path.{_≡_, refl, ap, _∙_, sym as inv}
 use mathlib.Core.Bool.{Bool, true, false}
 use mathlib.Core.List.{List}
 use borrow.Author.Tests.{eq-eqb, ne-eqb}
-use Rattle.heap.specs.Moving.{left}
+use Rattle.heap.specs.twins.Moving.{left}
 use Rattle.heap.specs.declared.configuration.Branches.{Branches}
 use Rattle.heap.specs.declared.configuration.Configuration.{Configuration}
 use Rattle.heap.specs.declared.configuration.Moved.{Moved}
-use Rattle.tracing.specs.Asking.{AskLeft, askLeft, askedAt, branchesAsked}
+use Rattle.tracing.specs.twins.Asking.{AskLeft, askLeft, askedAt, branchesAsked}
 use Rattle.tracing.specs.declared.ask.Asked.{Asked}
-use Rattle.trails.specs.TrailCells.{pathLeft, backtracked}
-use Rattle.replay.specs.Positions.{atDepth}
-use Rattle.replay.specs.Replaying.{replayLeft, broughtBack}
+use Rattle.trails.specs.twins.TrailCells.{pathLeft, backtracked}
+use Rattle.replay.specs.twins.Positions.{atDepth}
+use Rattle.replay.specs.twins.Replaying.{replayLeft, broughtBack}
 use Rattle.replay.specs.declared.position.Position.{Position}
 use Rattle.replay.specs.declared.position.Bounds.{Bounds}
-use Rattle.turns.specs.Choices.{firstBranch, isSpent}
-use Rattle.turns.specs.States.{stateAt, afterMove}
+use Rattle.turns.specs.twins.Choices.{firstBranch, isSpent}
+use Rattle.turns.specs.twins.States.{stateAt, afterMove}
 use Rattle.turns.specs.declared.found.Ending.the-variants.{Done, Spent}
 use Rattle.turns.specs.declared.state.State.{State}
 use Rattle.turns.specs.declared.state.Turn.{Turn}
 use Rattle.turns.specs.declared.state.Turn.the-variants.{Stop}
-use Rattle.walk.specs.Making.{movedOn, ChoiceLeft, choiceLeft, choiceRecorded, BranchLeft, branchLeft, behindMove, branchTaken, choiceTaken, madeChoice}
-use Rattle.walk.specs.Backing.{falseTaken, alongTrail, wentBack}
+use Rattle.walk.specs.twins.Making.{movedOn, ChoiceLeft, choiceLeft, choiceRecorded, BranchLeft, branchLeft, behindMove, branchTaken, choiceTaken, madeChoice}
+use Rattle.walk.specs.twins.Backing.{falseTaken, alongTrail, wentBack}
 
 module _ (code : List ℕ) (walk : ℕ) (s : State) (a : Asked) (taken : Bool) (h f q path saved : List ℕ) {t : Bool} (e : t ≡ isSpent walk (s .found)) where
   pub branch-spends : t ≡ true → branchLeft (Stop Spent (s .found)) h f q path saved ≡ branchTaken code walk s a taken h f q path saved

@@ -1,4 +1,4 @@
--- The walk of a job, from storages that hold the body of `main`, is the walk of semantics/specs/Backtrack.antt from the call of `main`.
+-- The walk of a job, from storages that hold the body of `main`, is the walk of semantics/proofs/Backtrack.antt from the call of `main`.
 use Prim.Native.Nat.{ℕ, zero, suc, _+_, _-_, _*_, _≤_, _<_, min}
 use mathlib.Core.Path.{_≡_, refl, ap, subst, _∙_, sym as inv}
 use mathlib.Core.Bool.{Bool, true, false, cond}
@@ -15,7 +15,7 @@ use Rattle.semantics.specs.Configuration.{nodesState, Configuration}
 use Rattle.semantics.specs.Trace.{Successors, called, successors}
 use Rattle.semantics.specs.Tree.{Node, root, afterCall}
 use Rattle.semantics.specs.Walk.{stateOver, Limits, Stop, stop21, Walked, going, stopped, stateOf, linesOf, countOf, atStart, taken, markCut}
-use Rattle.semantics.specs.Backtrack.{PathState, onPath, withTodo, Turn, ahead, exhausted, halted, extend, extendUnless, enter, orBack, turn, walkBack, walkBackFrom, walkedOf}
+use Rattle.semantics.proofs.Backtrack.{PathState, onPath, withTodo, Turn, ahead, exhausted, halted, extend, extendUnless, enter, orBack, turn, walkBack, walkBackFrom, walkedOf}
 use Rattle.semantics.proofs.Soundness.{Small, Sound}
 use Rattle.semantics.proofs.Tracing.{Scoped}
 use Rattle.semantics.proofs.Reaching.{Reaches, here, reaches-call}
@@ -24,33 +24,33 @@ use Rattle.heap.specs.declared.configuration.Moved.{Moved}
 use Rattle.heap.specs.declared.configuration.Moved.the-variants.{On as MovedOn, Contradiction, Over as MovedOver}
 use Rattle.heap.proofs.FrameLaws.{held-kept}
 use Rattle.heap.proofs.NodeLaws.{held-few}
-use Rattle.linking.specs.Code.{linkAt}
-use Rattle.linking.specs.Linked.{BodiesLinked, noBodies, moreBodies}
+use Rattle.linking.specs.twins.Code.{linkAt}
+use Rattle.linking.specs.twins.Linked.{BodiesLinked, noBodies, moreBodies}
 use Rattle.linking.proofs.AgreeLaws.{term-agrees}
-use Rattle.constants.specs.Laying.{ConstantsLeft, constantsLaid}
+use Rattle.constants.specs.twins.Laying.{ConstantsLeft, constantsLaid}
 use Rattle.constants.proofs.ConstantLaws.{Constants, NoConstants, Kept, constants-held, constants-kept}
-use Rattle.saving.specs.Saving.{sizeOf, SaveLeft, savedTo}
-use Rattle.saving.specs.Records.{Record, recordOf, recordCells, Fits, Holding}
+use Rattle.saving.specs.twins.Saving.{sizeOf, SaveLeft, savedTo}
+use Rattle.saving.specs.twins.Records.{Record, recordOf, recordCells, Fits, Holding}
 use Rattle.saving.specs.declared.head.Node.{Node as Saved}
 use Rattle.saving.proofs.HoldingLaws.{records-one, holding-none}
 use Rattle.saving.proofs.SavedLaws.{save-fits}
-use Rattle.values.specs.Sizes.{keptNodes, sizedAs}
+use Rattle.values.specs.twins.Sizes.{keptNodes, sizedAs}
 use Rattle.values.proofs.StateLaws.{trees, HoldsPair, Stands, nodes-length}
 use Rattle.values.proofs.PairLaws.{state-nodes, entries-few}
 use Rattle.values.proofs.ContractionLaws.{pair-on, pair-over}
 use Rattle.tracing.proofs.ShowLaws.{Accepted}
-use Rattle.initial.specs.Beginning.{BegunLeft, begunLeft}
+use Rattle.initial.specs.twins.Beginning.{BegunLeft, begunLeft}
 use Rattle.initial.specs.declared.begin.Begun.the-variants.{On}
 use Rattle.initial.proofs.BeginLaws.{inMain, Begins}
 use Rattle.lines.specs.LineCells.{answerRoom}
 use Rattle.lines.proofs.LineLaws.{LinesHeld}
-use Rattle.replay.specs.Rooms.{withUsed}
+use Rattle.replay.specs.twins.Rooms.{withUsed}
 use Rattle.replay.specs.declared.position.Bounds.{Bounds}
 use Rattle.replay.proofs.RecordLaws.{Entered, Recorded, Rooted, only}
-use Rattle.turns.specs.Finding.{walked, nothingFound, counted, cutOff}
-use Rattle.turns.specs.States.{stateAt}
-use Rattle.walk.specs.Walking.{WalkedLeft, walkedFrom}
-use Rattle.walk.specs.Jobs.{JobLeft, jobLeft, boundsOf, firstNode, ofWalk, walkFirst, walkBegun, onBegun}
+use Rattle.turns.specs.twins.Finding.{walked, nothingFound, counted, cutOff}
+use Rattle.turns.specs.twins.States.{stateAt}
+use Rattle.walk.specs.twins.Walking.{WalkedLeft, walkedFrom}
+use Rattle.walk.specs.twins.Jobs.{JobLeft, jobLeft, boundsOf, firstNode, ofWalk, walkFirst, walkBegun, onBegun}
 use Rattle.turns.specs.declared.found.Found.{Found}
 use Rattle.turns.specs.declared.found.Ending.{Ending}
 use Rattle.turns.specs.declared.found.Ending.the-variants.{Done, Over, Spent}

@@ -7,16 +7,16 @@ use lib.ListN.{replicate}
 use Rattle.syntax.specs.declared.job_ends.JobEnds.{JobEnds}
 use Rattle.syntax.specs.declared.numerals.Numerals.{Numerals}
 use Rattle.heap.specs.declared.configuration.Configuration.{Configuration}
-use Rattle.constants.specs.Laying.{ConstantsLeft, constantsLeft, constantsLaid}
-use Rattle.replay.specs.Rooms.{withUsed}
-use Rattle.saving.specs.Saving.{saveLeft, savedTo}
-use Rattle.initial.specs.Beginning.{BegunLeft, begunLeft, begunAt}
+use Rattle.constants.specs.twins.Laying.{ConstantsLeft, constantsLeft, constantsLaid}
+use Rattle.replay.specs.twins.Rooms.{withUsed}
+use Rattle.saving.specs.twins.Saving.{saveLeft, savedTo}
+use Rattle.initial.specs.twins.Beginning.{BegunLeft, begunLeft, begunAt}
 use Rattle.initial.specs.declared.begin.Begun.{Begun}
 use Rattle.initial.specs.declared.begin.Begun.the-variants.{On, None, Over as BegunOver}
-use Rattle.turns.specs.Finding.{walked, nothingFound, counted}
-use Rattle.turns.specs.States.{stateAt}
-use Rattle.walk.specs.Walking.{walkedLeft, walkedOn}
-use Rattle.walk.specs.Jobs.{jobLeft, boundsOf, firstNode, ofWalk, walkSaved, walkFirst, walkBegun, onBegun, walkJob, codeBegun, codeLaid, JobLeft, jobLaid, walkLaid}
+use Rattle.turns.specs.twins.Finding.{walked, nothingFound, counted}
+use Rattle.turns.specs.twins.States.{stateAt}
+use Rattle.walk.specs.twins.Walking.{walkedLeft, walkedOn}
+use Rattle.walk.specs.twins.Jobs.{jobLeft, boundsOf, firstNode, ofWalk, walkSaved, walkFirst, walkBegun, onBegun, walkJob, codeBegun, codeLaid, JobLeft, jobLaid, walkLaid}
 use Rattle.turns.specs.declared.found.Found.{Found}
 use Rattle.turns.specs.declared.found.Ending.the-variants.{Done, Over}
 use Rattle.turns.specs.declared.found.Walked.{Walked}

@@ -1,5 +1,5 @@
 -- What a turn does at a node that the storages hold: it makes the transition that is ahead, or its leaf is met and the path is exhausted, as in
--- semantics/specs/Backtrack.antt.
+-- semantics/proofs/Backtrack.antt.
 use Prim.Native.Nat.{ℕ, zero, suc, _+_, _≤_, _<_, min}
 use mathlib.Core.Path.{_≡_, refl, ap, ap₂, subst, _∙_, sym as inv}
 use mathlib.Core.Bool.{Bool, true, false, cond, not, false≢true}
@@ -19,62 +19,62 @@ use Rattle.semantics.specs.Configuration.{substOfEnv, Configuration}
 use Rattle.semantics.specs.Trace.{Successors, terminal, called, branches, successors}
 use Rattle.semantics.specs.Tree.{Node, root, afterCall, afterDecision, meetingAt}
 use Rattle.semantics.specs.Walk.{meetingOver, Limits, Stop, stop21, stop22, stop23, Untaken, WalkState, going, tableFull, withLine, atEnd, markCut}
-use Rattle.semantics.specs.Backtrack.{Choice, trailOf, PathState, onPath, withTodo, withPath, Turn, ahead, exhausted, halted, afterEnd, choose, extend}
+use Rattle.semantics.proofs.Backtrack.{Choice, trailOf, PathState, onPath, withTodo, withPath, Turn, ahead, exhausted, halted, afterEnd, choose, extend}
 use Rattle.semantics.proofs.Paths.{trail-length}
 use Rattle.semantics.proofs.Soundness.{Small}
 use Rattle.semantics.proofs.Reaching.{branchOf, Reaches, here, byCall, byDecision, reaches-call, reaches-decision, reaches-steps}
 use Rattle.sets.specs.declared.restriction.Kind.{Kind}
 use Rattle.sets.specs.declared.restriction.Kind.the-variants.{Contradiction, Redundant, Kept as KeptAs}
-use Rattle.sets.specs.Restricting.{kindCells}
-use Rattle.linking.specs.Code.{linkAt}
-use Rattle.heap.specs.Moving.{Move}
+use Rattle.sets.specs.twins.Restricting.{kindCells}
+use Rattle.linking.specs.twins.Code.{linkAt}
+use Rattle.heap.specs.twins.Moving.{Move}
 use Rattle.heap.specs.declared.configuration.Branches.{Branches}
 use Rattle.heap.specs.declared.configuration.Configuration.{Configuration as InCells}
-use Rattle.saving.specs.Records.{Record, recordCells}
-use Rattle.saving.specs.Saving.{SaveLeft}
-use Rattle.values.specs.Names.{namesFrom}
-use Rattle.calls.specs.Calls.{calledTo}
+use Rattle.saving.specs.twins.Records.{Record, recordCells}
+use Rattle.saving.specs.twins.Saving.{SaveLeft}
+use Rattle.values.specs.twins.Names.{namesFrom}
+use Rattle.calls.specs.twins.Calls.{calledTo}
 use Rattle.values.proofs.StateLaws.{isNone, Leads}
-use Rattle.atoms.specs.Atoms.{sidesAt}
-use Rattle.atoms.specs.Choices.{branchesBy, branchesOf as branchesSame}
-use Rattle.looking.specs.Looking.{lookAt}
+use Rattle.atoms.specs.twins.Atoms.{sidesAt}
+use Rattle.atoms.specs.twins.Choices.{branchesBy, branchesOf as branchesSame}
+use Rattle.looking.specs.twins.Looking.{lookAt}
 use Rattle.looking.specs.declared.look.Tested.{Tested}
 use Rattle.looking.specs.declared.look.Tested.the-variants.{Atom, Pair, Variable, Large}
-use Rattle.tracing.specs.Asking.{AskLeft, askLeft, askedAt, isEnd, isCall, noBranches, branchesAsked, beside, takenAs}
+use Rattle.tracing.specs.twins.Asking.{AskLeft, askLeft, askedAt, isEnd, isCall, noBranches, branchesAsked, beside, takenAs}
 use Rattle.tracing.specs.declared.ask.Asked.{Asked}
 use Rattle.tracing.specs.declared.ask.Asked.the-variants.{End, Call, Same, Test}
 use Rattle.tracing.proofs.ShowLaws.{Accepted, end-successors}
-use Rattle.trails.specs.TrailCells.{choiceCell, pushed}
+use Rattle.trails.specs.twins.TrailCells.{choiceCell, pushed}
 use Rattle.trails.proofs.TrailLaws.{PathHeld, path-pushed}
 use Rattle.trails.proofs.ReachLaws.{Decides}
 use Rattle.lines.specs.LineCells.{answerRoom}
 use Rattle.lines.specs.declared.line.Lines.{Lines}
-use Rattle.lines.specs.Ends.{EndLeft, metEnd}
+use Rattle.lines.specs.twins.Ends.{EndLeft, metEnd}
 use Rattle.lines.specs.declared.end.Ended.{Ended}
 use Rattle.lines.specs.declared.end.Ended.the-variants.{Going, Over as EndedOver, Full as EndedFull}
 use Rattle.lines.proofs.LineLaws.{LinesHeld}
 use Rattle.lines.proofs.EndLaws.{EndMeans, EndKept, end-means, end-kept}
-use Rattle.replay.specs.Positions.{atDepth}
-use Rattle.replay.specs.Rooms.{RoomLeft, madeRoom}
-use Rattle.replay.specs.Replaying.{savedIf}
+use Rattle.replay.specs.twins.Positions.{atDepth}
+use Rattle.replay.specs.twins.Rooms.{RoomLeft, madeRoom}
+use Rattle.replay.specs.twins.Replaying.{savedIf}
 use Rattle.replay.specs.declared.position.Bounds.{Bounds}
 use Rattle.replay.proofs.RecordLaws.{Entered, Rooted}
 use Rattle.replay.proofs.RoomLaws.{Kept, At, room-made}
 use Rattle.replay.proofs.ReplayLaws.{Holds, at-constants, Showing, showing, kept-later, choice-kept, Waiting}
-use Rattle.turns.specs.Finding.{withLines, cutOff}
-use Rattle.turns.specs.Choices.{isResult, isDeep, isSpent}
-use Rattle.turns.specs.States.{stateAt}
-use Rattle.turns.specs.States as states
+use Rattle.turns.specs.twins.Finding.{withLines, cutOff}
+use Rattle.turns.specs.twins.Choices.{isResult, isDeep, isSpent}
+use Rattle.turns.specs.twins.States.{stateAt}
+use Rattle.turns.specs.twins.States as states
 use Rattle.turns.specs.declared.choice.Way.the-variants.{Leaf}
 use Rattle.turns.specs.declared.found.Found.{Found}
 use Rattle.turns.specs.declared.found.Ending.{Ending}
 use Rattle.turns.specs.declared.found.Ending.the-variants.{Over, Full, Spent}
 use Rattle.turns.specs.declared.state.State.{State}
 use Rattle.turns.specs.declared.state.Turn.the-variants.{Stop as TurnStop}
-use Rattle.walk.specs.Leaves.{behindEnd, leafMet}
-use Rattle.walk.specs.Making.{sizedLeft, calledLeft, behindCall, madeCall, choiceRecorded, branchLeft, behindMove, branchTaken, madeChoice}
-use Rattle.walk.specs.Backing.{wentBack, TurnLeft, besideAnswer, afterLeaf, turnedBack}
-use Rattle.walk.specs.Walking.{wayAt, besideCall, byWay, walkTurn}
+use Rattle.walk.specs.twins.Leaves.{behindEnd, leafMet}
+use Rattle.walk.specs.twins.Making.{sizedLeft, calledLeft, behindCall, madeCall, choiceRecorded, branchLeft, behindMove, branchTaken, madeChoice}
+use Rattle.walk.specs.twins.Backing.{wentBack, TurnLeft, besideAnswer, afterLeaf, turnedBack}
+use Rattle.walk.specs.twins.Walking.{wayAt, besideCall, byWay, walkTurn}
 
 abbrev pub endingOf : Stop → Ending
 endingOf stop21 = Over

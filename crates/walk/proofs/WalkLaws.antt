@@ -1,4 +1,4 @@
--- The walk over the storages is the walk of semantics/specs/Backtrack.antt.
+-- The walk over the storages is the walk of semantics/proofs/Backtrack.antt.
 use Prim.Native.Nat.{ℕ, zero, suc, _+_, _-_, _*_, _≤_, _<_}
 use mathlib.Core.Path.{_≡_, refl, ap, subst, _∙_, sym as inv}
 use mathlib.Core.Bool.{Bool, true, false, cond, false≢true}
@@ -15,32 +15,32 @@ use Rattle.semantics.specs.Configuration.{nodesState, Configuration}
 use Rattle.semantics.specs.Trace.{Successors, terminal, called, branches, successors}
 use Rattle.semantics.specs.Tree.{Node, root, afterDecision, meetingAt}
 use Rattle.semantics.specs.Walk.{stateOver, meetingOver, Limits, Stop, stop21, Untaken, tableFull, withLine, atEnd, taken, Walked, going, stopped}
-use Rattle.semantics.specs.Backtrack.{Choice, trailOf, replay, PathState, onPath, withTodo, withPath, Turn, ahead, exhausted, halted, afterEnd, choose, extend, extendUnless, backtrack, backtrackTo, aheadIf, replayPath, orBack, turn, walkBack}
+use Rattle.semantics.proofs.Backtrack.{Choice, trailOf, replay, PathState, onPath, withTodo, withPath, Turn, ahead, exhausted, halted, afterEnd, choose, extend, extendUnless, backtrack, backtrackTo, aheadIf, replayPath, orBack, turn, walkBack}
 use Rattle.semantics.proofs.Paths.{trail-length}
 use Rattle.semantics.proofs.Soundness.{Small, Sound}
 use Rattle.semantics.proofs.Tracing.{Scoped}
 use Rattle.semantics.proofs.Reaching.{Reaches, reaches-decision, reaches-steps, reaches-replay}
-use Rattle.heap.specs.Moving.{Left}
+use Rattle.heap.specs.twins.Moving.{Left}
 use Rattle.heap.specs.declared.configuration.Moved.the-variants.{Over as MovedOver}
 use Rattle.heap.proofs.NodeLaws.{held-few}
-use Rattle.saving.specs.Records.{Record, recordCells}
+use Rattle.saving.specs.twins.Records.{Record, recordCells}
 use Rattle.values.proofs.StateLaws.{Arrives}
 use Rattle.values.proofs.ContractionLaws.{pair-on, pair-over}
-use Rattle.tracing.specs.Asking.{AskLeft, askedAt, takenAs}
+use Rattle.tracing.specs.twins.Asking.{AskLeft, askedAt, takenAs}
 use Rattle.tracing.specs.declared.ask.Asked.{Asked}
 use Rattle.tracing.proofs.ShowLaws.{Accepted}
-use Rattle.trails.specs.TrailCells.{latestPending, backtracked, pathLeft}
+use Rattle.trails.specs.twins.TrailCells.{latestPending, backtracked, pathLeft}
 use Rattle.trails.proofs.TrailLaws.{PathHeld, path-shorter, Backed, spent, turned, backs, backtrack-ended, backtrack-held}
-use Rattle.replay.specs.Positions.{atDepth, movedFrom}
-use Rattle.replay.specs.Replaying.{ReplayLeft, broughtBack}
+use Rattle.replay.specs.twins.Positions.{atDepth, movedFrom}
+use Rattle.replay.specs.twins.Replaying.{ReplayLeft, broughtBack}
 use Rattle.replay.specs.declared.position.Bounds.{Bounds}
 use Rattle.replay.proofs.RecordLaws.{Entered, Rooted, passed, saves-more, saves-below}
 use Rattle.replay.proofs.ReplayLaws.{Holds, showing, Waiting, bring-means}
-use Rattle.turns.specs.Finding.{walked, counted}
-use Rattle.turns.specs.States.{stateAt, afterMove}
-use Rattle.walk.specs.Making.{sizedMove, branchTaken}
-use Rattle.walk.specs.Backing.{falseTaken, wentBack, TurnLeft, besideAnswer}
-use Rattle.walk.specs.Walking.{walkTurn, WalkedLeft, walkedFrom}
+use Rattle.turns.specs.twins.Finding.{walked, counted}
+use Rattle.turns.specs.twins.States.{stateAt, afterMove}
+use Rattle.walk.specs.twins.Making.{sizedMove, branchTaken}
+use Rattle.walk.specs.twins.Backing.{falseTaken, wentBack, TurnLeft, besideAnswer}
+use Rattle.walk.specs.twins.Walking.{walkTurn, WalkedLeft, walkedFrom}
 use Rattle.turns.specs.declared.found.Found.{Found}
 use Rattle.turns.specs.declared.found.Ending.{Ending}
 use Rattle.turns.specs.declared.found.Ending.the-variants.{Done, Over, Spent}

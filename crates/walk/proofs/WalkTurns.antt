@@ -4,8 +4,8 @@ use mathlib.Core.Path.{_≡_}
 use mathlib.Core.List.{List}
 use native.Mathlib.Omega.{arith}
 use Rattle.replay.specs.declared.position.Bounds.{Bounds}
-use Rattle.turns.specs.Finding.{walked}
-use Rattle.walk.specs.Walking.{walkTurn, walkedLeft, afterTurn, walkedFrom}
+use Rattle.turns.specs.twins.Finding.{walked}
+use Rattle.walk.specs.twins.Walking.{walkTurn, walkedLeft, afterTurn, walkedFrom}
 use Rattle.turns.specs.declared.found.Ending.the-variants.{Spent}
 use Rattle.turns.specs.declared.state.State.{State}
 

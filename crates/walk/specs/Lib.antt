@@ -1,5 +1,1 @@
-pub mod Leaves
-pub mod Making
-pub mod Backing
-pub mod Walking
-pub mod Jobs
+pub mod twins

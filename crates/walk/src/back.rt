@@ -14,8 +14,8 @@ use turns::state::Turn;
 use turns::state::after_move;
 use turns::state::state_at;
 ghost use mathlib.Core.Path.{_≡_};
-ghost use Rattle.walk.specs.Making.{branchLeft};
-ghost use Rattle.walk.specs.Backing.{wentBack, turnLeft, turnedBack};
+ghost use Rattle.walk.specs.twins.Making.{branchLeft};
+ghost use Rattle.walk.specs.twins.Backing.{wentBack, turnLeft, turnedBack};
 
 // The configuration of that choice brought back, and the transition to its false branch.
 fn go_back(

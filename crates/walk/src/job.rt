@@ -19,7 +19,7 @@ use turns::found::nothing;
 use turns::state::state_at;
 use values::size::kept_nodes;
 ghost use mathlib.Core.Path.{_≡_};
-ghost use Rattle.walk.specs.Jobs.{jobLeft, walkFirst, walkBegun, jobLaid, walkLaid};
+ghost use Rattle.walk.specs.twins.Jobs.{jobLeft, walkFirst, walkBegun, jobLaid, walkLaid};
 
 // The walk behind the first transition, which leads to c and counts: c is saved below all others.
 fn walk_first(

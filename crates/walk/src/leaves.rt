@@ -8,7 +8,7 @@ use turns::state::State;
 use turns::state::after_end;
 use turns::state::cut;
 ghost use mathlib.Core.Path.{_≡_};
-ghost use Rattle.walk.specs.Leaves.{leafLeft, leafMet};
+ghost use Rattle.walk.specs.twins.Leaves.{leafLeft, leafMet};
 
 pub(crate) fn meet_leaf(
     code: &[u16; 24582],

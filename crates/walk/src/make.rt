@@ -24,8 +24,8 @@ use values::names::names_from;
 use values::size::sized;
 ghost use mathlib.Core.Path.{_≡_};
 ghost use mathlib.Core.Bool.{Bool};
-ghost use Rattle.heap.specs.Moving.{left as leaves};
-ghost use Rattle.walk.specs.Making.{sizedMove, movedOn, calledLeft, madeCall, choiceLeft, choiceRecorded, branchLeft, madeChoice};
+ghost use Rattle.heap.specs.twins.Moving.{left as leaves};
+ghost use Rattle.walk.specs.twins.Making.{sizedMove, movedOn, calledLeft, madeCall, choiceLeft, choiceRecorded, branchLeft, madeChoice};
 
 // "21 over 4,096 nodes: .. after a transition"
 fn sized_move(frame: &[u16; 12360], m: Moved) -> Moved

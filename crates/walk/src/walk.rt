@@ -2,11 +2,11 @@
 use crate::back::turn_back;
 use crate::make::make_call;
 use crate::make::make_choice;
+use cells::cell;
 use linking::code::link_at;
 use replay::position::Bounds;
 use replay::room::have_room;
 use saving::head::Node;
-use sets::cell;
 use turns::choice::Way;
 use turns::choice::way_on;
 use turns::found;
@@ -16,8 +16,8 @@ use turns::state::State;
 use turns::state::Turn;
 use turns::state::state_at;
 ghost use mathlib.Core.Path.{_≡_};
-ghost use Rattle.walk.specs.Backing.{turnLeft};
-ghost use Rattle.walk.specs.Walking.{wayAt, walkTurn, walkedLeft, walkedOn};
+ghost use Rattle.walk.specs.twins.Backing.{turnLeft};
+ghost use Rattle.walk.specs.twins.Walking.{wayAt, walkTurn, walkedLeft, walkedOn};
 
 fn way_at(code: &[u16; 24582], n: Node, b: Bounds) -> Way
     ensures { λ r. ⌜ r ≡ wayAt (now (code .entry)) b n ⌝ }

@@ -9,7 +9,8 @@ use lib.Dec.{leb, ltb}
 use lib.ListN.{length, take, drop, replicate, set, length-append, length-replicate, length-drop}
 use lib.Seq.{take-nil, drop-nil, set-append-seam}
 use Rattle.window.specs.declared.sink.Place.{Place}
-use Rattle.window.specs.Sink.{Sink, sink, opening, pushed, full, puts, windowed, Printed}
+use Rattle.window.specs.Windows.{windowed, Printed}
+use Rattle.window.specs.twins.Sink.{Sink, sink, opening, pushed, full, puts}
 
 pub puts-append : (s : Sink) (a b : List ℕ) → puts s (a ++ b) ≡ puts (puts s a) b
 unfolding puts

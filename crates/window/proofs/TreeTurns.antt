@@ -8,7 +8,7 @@ use borrow.Author.Tests.{lt-ltb, le-ltb, eq-eqb, ne-eqb}
 use lib.ListN.{length, getD, take, drop, replicate}
 use lib.Seq.{drop-cons}
 use Rattle.language.specs.Bytes.{txt}
-use Rattle.window.specs.TreeText.{leafText, closings, behindLeaf, nodeText, treeFrom, treeText}
+use Rattle.window.specs.twins.TreeText.{leafText, closings, behindLeaf, nodeText, treeFrom, treeText}
 
 -- the first cells
 pub part-front : (s : List ℕ) (n : ℕ) → take (n - 0) (drop 0 s) ≡ take n s

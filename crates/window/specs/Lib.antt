@@ -1,2 +1,2 @@
-pub mod Sink
-pub mod TreeText
+pub mod Windows
+pub mod twins

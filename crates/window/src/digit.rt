@@ -3,7 +3,7 @@ use crate::sink::Place;
 use crate::sink::put_byte;
 ghost use mathlib.Core.Path.{_≡_};
 ghost use Rattle.listing.specs.Print.{digits};
-ghost use Rattle.window.specs.Sink.{sink, puts};
+ghost use Rattle.window.specs.twins.Sink.{sink, puts};
 
 pub fn put_digits(out: &mut [u8], place: Place, n: usize) -> Place
     ensures { λ r. ⌜ sink r (now (out .exit)) ≡ puts (sink place (now (out .entry))) (digits n) ⌝ }

@@ -5,9 +5,9 @@ use crate::sink::put_byte;
 use crate::sink::put_text;
 use lexer::table;
 ghost use mathlib.Core.Path.{_≡_};
-ghost use Rattle.lexer.specs.Table.{wordIn};
-ghost use Rattle.window.specs.Sink.{sink, puts};
-ghost use Rattle.window.specs.TreeText.{symbolText, leafText};
+ghost use Rattle.lexer.specs.twins.Table.{wordIn};
+ghost use Rattle.window.specs.twins.Sink.{sink, puts};
+ghost use Rattle.window.specs.twins.TreeText.{symbolText, leafText};
 
 // The word at this offset, quote and all: from 32,769 on in the job.
 fn put_word(out: &mut [u8], place: Place, program: &[u8], job: &[u8], at: u16) -> Place

@@ -3,7 +3,7 @@
 ghost use mathlib.Core.Path.{_≡_};
 ghost use mathlib.Core.List.{_∷_, []};
 ghost use lib.ListN.{replicate, length};
-ghost use Rattle.window.specs.Sink.{opening, sink, full, puts};
+ghost use Rattle.window.specs.twins.Sink.{opening, sink, full, puts};
 
 // `skip` bytes of the text are still to be passed over; `at` of the window are written.
 pub struct Place {

@@ -4,10 +4,11 @@ use crate::sink::Place;
 use crate::sink::put_byte;
 use crate::sink::put_repeat;
 use crate::sink::put_text;
-use sets::cell;
+use cells::cell;
+use sets::tree;
 ghost use mathlib.Core.Path.{_≡_};
-ghost use Rattle.window.specs.Sink.{sink, puts};
-ghost use Rattle.window.specs.TreeText.{symbolText, closings, behindLeaf, treeText};
+ghost use Rattle.window.specs.twins.Sink.{sink, puts};
+ghost use Rattle.window.specs.twins.TreeText.{symbolText, closings, behindLeaf, treeText};
 
 // How many pairs end where the first `to` cells do. Going back, `trees` trees are whole from there on; a pair joins two of them, and ends
 // there itself if they were all. A pair that has but one waits for its tail.
@@ -20,7 +21,7 @@ fn count_closings(cells: &[u16], to: usize) -> usize
     while 0 < i {
         i -= 1;
         let c = cell::cell(cells, i);
-        if c != cell::PAIR {
+        if c != tree::PAIR {
             trees += 1;
             continue;
         }
@@ -63,7 +64,7 @@ pub fn put_tree(
     while i < cells.len() {
         let c = cells[i];
         i += 1;
-        if c == cell::PAIR {
+        if c == tree::PAIR {
             p = put_text(out, p, b"(cons ");
             continue;
         }

@@ -10,7 +10,7 @@ use lib.Seq.{drop-cons, drop-drop, drop-length}
 use Rattle.language.specs.Bytes.{txt}
 use Rattle.listing.specs.Print.{digits}
 use Rattle.listing.specs.Text.{printRefusal}
-use Rattle.writer.specs.LineText.{pastAt, bindingAt, bindingsFrom, bindingsText, nonEqualityText, restrictionText, lineEnd, lineText, linesText}
+use Rattle.writer.specs.twins.LineText.{pastAt, bindingAt, bindingsFrom, bindingsText, nonEqualityText, restrictionText, lineEnd, lineText, linesText}
 
 pub bindings-start : (name : ℕ → List ℕ) (vars l : List ℕ) → bindingsText name vars l ≡ bindingsFrom name vars l (length vars - 0) 0 0
 unfolding bindingsText

@@ -1,2 +1,1 @@
-pub mod LineText
-pub mod OutcomeText
+pub mod twins

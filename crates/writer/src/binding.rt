@@ -1,6 +1,7 @@
 // "then ` VAR=EXPR` for each job variable that was bound, in order of first standing in the job": the job's cells beside the line's,
 // which are the same but for what stands in the place of variables.
-use sets::cell;
+use cells::cell;
+use sets::tree;
 use window::leaf::put_leaf;
 use window::parts::ahead;
 use window::parts::part;
@@ -8,9 +9,9 @@ use window::sink::Place;
 use window::sink::put_byte;
 use window::tree::put_tree;
 ghost use mathlib.Core.Path.{_≡_};
-ghost use Rattle.window.specs.Sink.{sink, puts};
-ghost use Rattle.window.specs.TreeText.{symbolText};
-ghost use Rattle.writer.specs.LineText.{pastAt, bindingAt, bindingText, bindingsText};
+ghost use Rattle.window.specs.twins.Sink.{sink, puts};
+ghost use Rattle.window.specs.twins.TreeText.{symbolText};
+ghost use Rattle.writer.specs.twins.LineText.{pastAt, bindingAt, bindingText, bindingsText};
 
 // The line's cells `start` up to `end`.
 struct Span {
@@ -22,10 +23,10 @@ struct Span {
 fn past(c: u16, line: &[u16], k: usize) -> usize
     ensures { λ r. ⌜ r ≡ pastAt c (now (line .entry)) k ⌝ }
 {
-    if c == cell::PAIR {
+    if c == tree::PAIR {
         return ahead(k, 1, line.len());
     }
-    cell::tree_end(line, k)
+    tree::tree_end(line, k)
 }
 
 // ` VAR=EXPR`, the expression being cells k up to `end` of the line.
@@ -68,7 +69,7 @@ fn put_binding(
     if c % 4 < 2 {
         return place;
     }
-    if cell::stands_in(io, 0, i, c) {
+    if tree::stands_in(io, 0, i, c) {
         return place;
     }
     if cell::cell(line, k) == c {

@@ -1,7 +1,7 @@
 // "Each line: its number, its steps", its bindings and its non-equalities. In storage a line has its steps, how many cells its inputs and
 // its output have, how many non-equalities there are, then the cells of the inputs, of the output, and two for each non-equality.
 use crate::binding::put_bindings;
-use sets::cell;
+use cells::cell;
 use window::digit::put_digits;
 use window::leaf::put_leaf;
 use window::parts::ahead;
@@ -14,9 +14,9 @@ use window::sink::put_text;
 ghost use mathlib.Core.Path.{_≡_};
 ghost use mathlib.Core.List.{_++_, _∷_};
 ghost use Rattle.listing.specs.Print.{digits};
-ghost use Rattle.window.specs.Sink.{sink, puts};
-ghost use Rattle.window.specs.TreeText.{symbolText};
-ghost use Rattle.writer.specs.LineText.{nonEqualityText, restrictionText, classEnd, lineEnd, lineText, linesText};
+ghost use Rattle.window.specs.twins.Sink.{sink, puts};
+ghost use Rattle.window.specs.twins.TreeText.{symbolText};
+ghost use Rattle.writer.specs.twins.LineText.{nonEqualityText, restrictionText, classEnd, lineEnd, lineText, linesText};
 
 // ` # L R`
 fn put_non_equality(

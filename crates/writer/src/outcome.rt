@@ -7,9 +7,10 @@ use window::tree::put_tree;
 ghost use mathlib.Core.Path.{_≡_};
 ghost use Prim.Native.Nat.{_*_, _-_, min};
 ghost use lib.ListN.{length, take};
-ghost use Rattle.window.specs.Sink.{windowed, sink, puts};
-ghost use Rattle.window.specs.TreeText.{symbolText};
-ghost use Rattle.writer.specs.OutcomeText.{valueText, outcomeText};
+ghost use Rattle.window.specs.Windows.{windowed};
+ghost use Rattle.window.specs.twins.Sink.{sink, puts};
+ghost use Rattle.window.specs.twins.TreeText.{symbolText};
+ghost use Rattle.writer.specs.twins.OutcomeText.{valueText, outcomeText};
 
 // The value has `length` cells.
 pub enum Outcome {

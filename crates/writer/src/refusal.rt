@@ -6,7 +6,8 @@ ghost use mathlib.Core.Path.{_≡_};
 ghost use Prim.Native.Nat.{_-_, min};
 ghost use lib.ListN.{length};
 ghost use Rattle.listing.specs.Text.{printRefusal};
-ghost use Rattle.window.specs.Sink.{windowed, sink, puts};
+ghost use Rattle.window.specs.Windows.{windowed};
+ghost use Rattle.window.specs.twins.Sink.{sink, puts};
 
 // "`refused p 3 17` (p program, j job, number, offset)"
 fn put_refusal(out: &mut [u8], place: Place, letter: u8, number: usize, offset: usize) -> Place

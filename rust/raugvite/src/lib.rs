@@ -62,42 +62,79 @@ pub fn run_lengths() -> (usize, usize) {
     sys::run_lengths()
 }
 
-fn listed(kind: usize, first: usize, second: usize) -> Listed {
-    match kind {
-        0 => Listed::Whole { lines: first, count: second },
-        1 => Listed::Cut { lines: first, count: second },
-        2 => Listed::Stop21 { lines: first, count: second },
-        3 => Listed::Stop22 { lines: first, count: second },
-        4 => Listed::Stop23 { lines: first, count: second },
-        5 => Listed::Program { number: first, offset: second },
-        6 => Listed::Job { number: first, offset: second },
-        _ => Listed::Short,
+// The letters of a refused text, and the number of storage that is too short.
+const PROGRAM: usize = b'p' as usize;
+const JOB: usize = b'j' as usize;
+const SHORT: usize = 20;
+
+// The number of an answer, and letter, offset, cut, lines and transitions.
+fn listed(number: usize, [letter, offset, cut, lines, count]: [usize; 5]) -> Listed {
+    match (number, letter, cut) {
+        (SHORT, _, _) => Listed::Short,
+        (_, PROGRAM, _) => Listed::Program { number, offset },
+        (_, JOB, _) => Listed::Job { number, offset },
+        (21, _, _) => Listed::Stop21 { lines, count },
+        (22, _, _) => Listed::Stop22 { lines, count },
+        (23, _, _) => Listed::Stop23 { lines, count },
+        (_, _, 1) => Listed::Cut { lines, count },
+        _ => Listed::Whole { lines, count },
+    }
+}
+
+fn listed_numbers(said: Listed) -> (usize, [usize; 5]) {
+    match said {
+        Listed::Whole { lines, count } => (0, [0, 0, 0, lines, count]),
+        Listed::Cut { lines, count } => (0, [0, 0, 1, lines, count]),
+        Listed::Stop21 { lines, count } => (21, [0, 0, 0, lines, count]),
+        Listed::Stop22 { lines, count } => (22, [0, 0, 0, lines, count]),
+        Listed::Stop23 { lines, count } => (23, [0, 0, 0, lines, count]),
+        Listed::Program { number, offset } => (number, [PROGRAM, offset, 0, 0, 0]),
+        Listed::Job { number, offset } => (number, [JOB, offset, 0, 0, 0]),
+        Listed::Short => (SHORT, [0; 5]),
+    }
+}
+
+// The number of an answer, and letter, offset, steps and length; a value has a cell at least.
+fn ran(number: usize, [letter, offset, steps, length]: [usize; 4]) -> Ran {
+    match (number, letter, length) {
+        (SHORT, _, _) => Ran::Short,
+        (_, PROGRAM, _) => Ran::Program { number, offset },
+        (_, JOB, _) => Ran::Job { number, offset },
+        (21, _, _) => Ran::Over,
+        (_, _, 0) => Ran::NotWithin,
+        _ => Ran::Value { steps, length },
+    }
+}
+
+fn ran_numbers(said: Ran) -> (usize, [usize; 4]) {
+    match said {
+        Ran::Value { steps, length } => (0, [0, 0, steps, length]),
+        Ran::Over => (21, [0; 4]),
+        Ran::NotWithin => (0, [0; 4]),
+        Ran::Program { number, offset } => (number, [PROGRAM, offset, 0, 0]),
+        Ran::Job { number, offset } => (number, [JOB, offset, 0, 0]),
+        Ran::Short => (SHORT, [0; 4]),
     }
 }
 
 /// The listing of a program and a job, in lent storage.
 pub fn list_in(program: &[u8], job: &[u8], work: &mut [u16], answer: &mut [u16]) -> Listed {
-    let (kind, [first, second]) = sys::list(program, job, work, answer);
-    listed(kind, first, second)
+    let (number, said) = sys::list(program, job, work, answer);
+    listed(number, said)
 }
 
 /// The same, and in `out` the printed text from its first byte on: how many bytes of it there are. The texts are read once.
 pub fn list_print_in(program: &[u8], job: &[u8], work: &mut [u16], answer: &mut [u16], out: &mut [u8]) -> (Listed, usize) {
-    let (kind, [first, second, bytes]) = sys::list_print(program, job, work, answer, out);
-    (listed(kind, first, second), bytes)
+    let (number, [letter, offset, cut, lines, count, bytes]) = sys::list_print(program, job, work, answer, out);
+    // 20 says nothing beside its number; its text stands in `out` as any other, with zeros behind it and none in it.
+    let bytes = if number == SHORT { out.iter().take_while(|&&b| b != 0).count() } else { bytes };
+    (listed(number, [letter, offset, cut, lines, count]), bytes)
 }
 
 /// The program run forwards on the job's inputs, in lent storage.
 pub fn run_in(program: &[u8], job: &[u8], work: &mut [u16], answer: &mut [u16]) -> Ran {
-    let (kind, [first, second]) = sys::run(program, job, work, answer);
-    match kind {
-        0 => Ran::Value { steps: first, length: second },
-        1 => Ran::Over,
-        2 => Ran::NotWithin,
-        3 => Ran::Program { number: first, offset: second },
-        4 => Ran::Job { number: first, offset: second },
-        _ => Ran::Short,
-    }
+    let (number, said) = sys::run(program, job, work, answer);
+    ran(number, said)
 }
 
 /// The printed text of an answer, whole; `answer` is the storage that [`list_in`] left.
@@ -107,30 +144,14 @@ pub fn print_list(program: &[u8], job: &[u8], said: Listed, answer: &[u16]) -> V
 
 // The rest of the text behind what is there.
 fn print_list_on(program: &[u8], job: &[u8], said: Listed, answer: &[u16], text: Vec<u8>) -> Vec<u8> {
-    let (kind, first, second) = match said {
-        Listed::Whole { lines, count } => (0, lines, count),
-        Listed::Cut { lines, count } => (1, lines, count),
-        Listed::Stop21 { lines, count } => (2, lines, count),
-        Listed::Stop22 { lines, count } => (3, lines, count),
-        Listed::Stop23 { lines, count } => (4, lines, count),
-        Listed::Program { number, offset } => (5, number, offset),
-        Listed::Job { number, offset } => (6, number, offset),
-        Listed::Short => (7, 20, 0),
-    };
-    pages(text, |from, page| sys::print_list(program, job, [kind, first, second], answer, from, page))
+    let numbers = listed_numbers(said);
+    pages(text, |from, page| sys::print_list(program, job, numbers, answer, from, page))
 }
 
 /// The same of a run; `answer` is the storage that [`run_in`] left.
 pub fn print_run(program: &[u8], job: &[u8], said: Ran, answer: &[u16]) -> Vec<u8> {
-    let (kind, first, second) = match said {
-        Ran::Value { steps, length } => (0, steps, length),
-        Ran::Over => (1, 0, 0),
-        Ran::NotWithin => (2, 0, 0),
-        Ran::Program { number, offset } => (3, number, offset),
-        Ran::Job { number, offset } => (4, number, offset),
-        Ran::Short => (5, 20, 0),
-    };
-    pages(Vec::new(), |from, page| sys::print_run(program, job, [kind, first, second], answer, from, page))
+    let numbers = ran_numbers(said);
+    pages(Vec::new(), |from, page| sys::print_run(program, job, numbers, answer, from, page))
 }
 
 // A text is fetched page by page, so that no bound on its length is needed.

@@ -14,7 +14,7 @@ macro_rules! lengths {
     };
 }
 
-/// An entry, with a page for the beginning of the text or without: the case of its answer, and what stands in `said`.
+/// An entry, with a page for the beginning of the text or without: the number of its answer, and what stands in `said` beside it.
 macro_rules! entry {
     ($name:ident, $function:ident, $said:literal $(, $page:ident)?) => {
         pub fn $name(program: &[u8], job: &[u8], work: &mut [u16], answer: &mut [u16] $(, $page: &mut [u8])?) -> (usize, [usize; $said]) {
@@ -36,25 +36,25 @@ macro_rules! entry {
             let mut said = [0usize; $said];
             let (p, j) = (program.as_ptr(), job.as_ptr());
             let (w, a, s) = (work.as_mut_ptr(), answer.as_mut_ptr(), said.as_mut_ptr());
-            let kind = unsafe { $function(p, program.len(), j, job.len(), w, work.len(), a, answer.len(), s, said.len() $(, $page.as_mut_ptr(), $page.len())?) };
-            (kind, said)
+            let number = unsafe { $function(p, program.len(), j, job.len(), w, work.len(), a, answer.len(), s, said.len() $(, $page.as_mut_ptr(), $page.len())?) };
+            (number, said)
         }
     };
 }
 
-/// The text of an answer, given by its case and two numbers, from the byte `from` on, as far as `out` has room: how many bytes they are.
+/// The text of an answer, given by its number and `said`, from the byte `from` on, as far as `out` has room: how many bytes they are.
 macro_rules! text {
-    ($name:ident, $function:ident) => {
-        pub fn $name(program: &[u8], job: &[u8], said: [usize; 3], cells: &[u16], from: usize, out: &mut [u8]) -> usize {
+    ($name:ident, $function:ident, $said:literal) => {
+        pub fn $name(program: &[u8], job: &[u8], answer: (usize, [usize; $said]), cells: &[u16], from: usize, out: &mut [u8]) -> usize {
             extern "C" {
                 fn $function(
                     program: *const u8,
                     program_length: usize,
                     job: *const u8,
                     job_length: usize,
-                    kind: usize,
-                    first: usize,
-                    second: usize,
+                    number: usize,
+                    said: *const usize,
+                    said_length: usize,
                     cells: *const u16,
                     cells_length: usize,
                     from: usize,
@@ -62,17 +62,17 @@ macro_rules! text {
                     out_length: usize,
                 ) -> usize;
             }
-            let [kind, first, second] = said;
-            let (p, j, c, o) = (program.as_ptr(), job.as_ptr(), cells.as_ptr(), out.as_mut_ptr());
-            unsafe { $function(p, program.len(), j, job.len(), kind, first, second, c, cells.len(), from, o, out.len()) }
+            let (number, said) = answer;
+            let (p, j, s, c, o) = (program.as_ptr(), job.as_ptr(), said.as_ptr(), cells.as_ptr(), out.as_mut_ptr());
+            unsafe { $function(p, program.len(), j, job.len(), number, s, said.len(), c, cells.len(), from, o, out.len()) }
         }
     };
 }
 
 lengths!(list_lengths, raugvite_list_work, raugvite_list_answer);
 lengths!(run_lengths, raugvite_run_work, raugvite_run_answer);
-entry!(list, raugvite_list, 2);
-entry!(list_print, raugvite_list_print, 3, page);
-entry!(run, raugvite_run, 2);
-text!(print_list, raugvite_print_list);
-text!(print_run, raugvite_print_run);
+entry!(list, raugvite_list, 5);
+entry!(list_print, raugvite_list_print, 6, page);
+entry!(run, raugvite_run, 4);
+text!(print_list, raugvite_print_list, 5);
+text!(print_run, raugvite_print_run, 4);

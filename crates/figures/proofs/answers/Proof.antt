@@ -8,7 +8,7 @@ use Rattle.figures.proofs.answers.Lts as lts
 use Rattle.figures.proofs.line_end.Reads as line-end-reads
 use Rattle.figures.proofs.list_case.Reads as list-case-reads
 use Rattle.figures.proofs.lists.Reads as lists-reads
-use Rattle.pages.proofs.part.part.Reads as part-reads
+use Rattle.cells.proofs.part.part.Reads as part-reads
 use Rattle.figures.proofs.run_case.Reads as run-case-reads
 use Rattle.io.proofs.write_all.Reads as write-all-reads
 

@@ -15,32 +15,8 @@ listing-requires c κs = search needs
 enum-known-a-2 : tie.Need-enum-known-a-2
 enum-known-a-2 c = search needs
 
-listing-requires-2 : tie.Need-listing-requires-2
-listing-requires-2 c κs = search needs
-
 enum-known-a-3 : tie.Need-enum-known-a-3
 enum-known-a-3 c = search needs
-
-listing-requires-3 : tie.Need-listing-requires-3
-listing-requires-3 c κs = search needs
-
-enum-known-a-4 : tie.Need-enum-known-a-4
-enum-known-a-4 c = search needs
-
-listing-requires-4 : tie.Need-listing-requires-4
-listing-requires-4 c κs = search needs
-
-enum-known-a-5 : tie.Need-enum-known-a-5
-enum-known-a-5 c = search needs
-
-listing-requires-5 : tie.Need-listing-requires-5
-listing-requires-5 c κs = search needs
-
-enum-known-a-6 : tie.Need-enum-known-a-6
-enum-known-a-6 c = search needs
-
-enum-known-a-7 : tie.Need-enum-known-a-7
-enum-known-a-7 c = search needs
 
 enum-told : tie.Need-enum-told
 enum-told c = search needs
@@ -49,25 +25,13 @@ returns : tie.Need-returns
 returns c = rw (c .before .before .a .given .1) (c .listing .ensures)
 
 returns-2 : tie.Need-returns-2
-returns-2 c = rw (c .before .before .a2 .given .1) (c .listing2 .ensures)
+returns-2 c = rw (c .before .a2 .given .1) refl
 
 returns-3 : tie.Need-returns-3
-returns-3 c = rw (c .before .before .a3 .given .1) (c .listing3 .ensures)
+returns-3 c = rw (c .before .a3 .given .1) refl
 
 returns-4 : tie.Need-returns-4
-returns-4 c = rw (c .before .before .a4 .given .1) (c .listing4 .ensures)
-
-returns-5 : tie.Need-returns-5
-returns-5 c = rw (c .before .before .a5 .given .1) (c .listing5 .ensures)
-
-returns-6 : tie.Need-returns-6
-returns-6 c = rw (c .before .a6 .given .1) refl
-
-returns-7 : tie.Need-returns-7
-returns-7 c = rw (c .before .a7 .given .1) refl
-
-returns-8 : tie.Need-returns-8
-returns-8 c = rw (c .enum-told .given .1) refl
+returns-4 c = rw (c .enum-told .given .1) refl
 
 pub heading-of-spec : {M : Type 1} → statement M
 heading-of-spec =
@@ -76,21 +40,9 @@ heading-of-spec =
     enum-known-a
     listing-requires
     enum-known-a-2
-    listing-requires-2
     enum-known-a-3
-    listing-requires-3
-    enum-known-a-4
-    listing-requires-4
-    enum-known-a-5
-    listing-requires-5
-    enum-known-a-6
-    enum-known-a-7
     enum-told
     returns
     returns-2
     returns-3
-    returns-4
-    returns-5
-    returns-6
-    returns-7
-    returns-8)
+    returns-4)

@@ -1,14 +1,14 @@
 use borrow.Author.Tests.{eq-eqb, ne-eqb}
-use Rattle.atoms.specs.Atoms.{atomAt}
+use Rattle.atoms.specs.twins.Atoms.{atomAt}
 use borrow.Author.Needs.{needs}
 use Rattle.atoms.proofs.atom.atom_at.Statement.{statement}
 use Rattle.atoms.proofs.atom.atom_at.Tie as tie
 use Rattle.atoms.proofs.atom.atom_at.Reads as reads
 use Rattle.atoms.proofs.atom.atom_at.Lts as lts
 use Rattle.atoms.proofs.atom.first_cell.Reads as first-cell-reads
-use Rattle.heap.proofs.entry.wide.Reads as wide-reads
+use Rattle.cells.proofs.cell.wide.Reads as wide-reads
 use Rattle.linking.proofs.code.link_at.Reads as link-at-reads
-use Rattle.sets.proofs.cell.least.Reads as least-reads
+use Rattle.cells.proofs.cell.least.Reads as least-reads
 
 link-at-requires : tie.Need-link-at-requires
 link-at-requires c κs = search needs

@@ -1,11 +1,11 @@
 use borrow.Author.Tests.{le-leb, lt-leb}
-use Rattle.atoms.specs.Atoms.{firstCell}
+use Rattle.atoms.specs.twins.Atoms.{firstCell}
 use borrow.Author.Needs.{needs}
 use Rattle.atoms.proofs.atom.first_cell.Statement.{statement}
 use Rattle.atoms.proofs.atom.first_cell.Tie as tie
 use Rattle.atoms.proofs.atom.first_cell.Reads as reads
 use Rattle.atoms.proofs.atom.first_cell.Lts as lts
-use Rattle.heap.proofs.entry.wide.Reads as wide-reads
+use Rattle.cells.proofs.cell.wide.Reads as wide-reads
 
 returns : tie.Need-returns
 unfolding firstCell

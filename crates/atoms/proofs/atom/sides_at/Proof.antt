@@ -1,4 +1,4 @@
-use Rattle.atoms.specs.Atoms.{sidesAt}
+use Rattle.atoms.specs.twins.Atoms.{sidesAt}
 use borrow.Author.Needs.{needs}
 use Rattle.atoms.proofs.atom.sides_at.Statement.{statement}
 use Rattle.atoms.proofs.atom.sides_at.Tie as tie
@@ -6,9 +6,9 @@ use Rattle.atoms.proofs.atom.sides_at.Reads as reads
 use Rattle.atoms.proofs.atom.sides_at.Lts as lts
 use Rattle.atoms.proofs.atom.atom_at.Reads as atom-at-reads
 use Rattle.values.proofs.names.names_from.Reads as names-from-reads
-use Rattle.heap.proofs.entry.wide.Reads as wide-reads
+use Rattle.cells.proofs.cell.wide.Reads as wide-reads
 use Rattle.linking.proofs.code.link_at.Reads as link-at-reads
-use Rattle.sets.proofs.cell.least.Reads as least-reads
+use Rattle.cells.proofs.cell.least.Reads as least-reads
 
 names-from-requires : tie.Need-names-from-requires
 names-from-requires c κs = search needs

@@ -1,4 +1,4 @@
-use Rattle.atoms.specs.Choices.{branchesOf}
+use Rattle.atoms.specs.twins.Choices.{branchesOf}
 use borrow.Author.Needs.{needs}
 use Rattle.atoms.proofs.choice.same_branches.Statement.{statement}
 use Rattle.atoms.proofs.choice.same_branches.Tie as tie

@@ -1,4 +1,4 @@
-use Rattle.atoms.specs.Taking.{takenBy}
+use Rattle.atoms.specs.twins.Taking.{takenBy}
 use borrow.Author.Needs.{needs}
 use Rattle.atoms.proofs.take.take.Statement.{statement}
 use Rattle.atoms.proofs.take.take.Tie as tie

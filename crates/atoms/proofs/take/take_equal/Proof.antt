@@ -1,11 +1,11 @@
-use Rattle.atoms.specs.Taking.{equalTaken}
+use Rattle.atoms.specs.twins.Taking.{equalTaken}
 use borrow.Author.Needs.{needs}
 use Rattle.atoms.proofs.take.take_equal.Statement.{statement}
 use Rattle.atoms.proofs.take.take_equal.Tie as tie
 use Rattle.atoms.proofs.take.take_equal.Reads as reads
 use Rattle.atoms.proofs.take.take_equal.Lts as lts
 use Rattle.atoms.proofs.take.take.Reads as take-reads
-use Rattle.heap.proofs.entry.wide.Reads as wide-reads
+use Rattle.cells.proofs.cell.wide.Reads as wide-reads
 use Rattle.linking.proofs.code.link_at.Reads as link-at-reads
 use Rattle.sets.proofs.contraction.equality_contraction.Reads as equality-contraction-reads
 

@@ -1,11 +1,11 @@
-use Rattle.atoms.specs.Taking.{unequalTaken}
+use Rattle.atoms.specs.twins.Taking.{unequalTaken}
 use borrow.Author.Needs.{needs}
 use Rattle.atoms.proofs.take.take_unequal.Statement.{statement}
 use Rattle.atoms.proofs.take.take_unequal.Tie as tie
 use Rattle.atoms.proofs.take.take_unequal.Reads as reads
 use Rattle.atoms.proofs.take.take_unequal.Lts as lts
 use Rattle.atoms.proofs.take.take.Reads as take-reads
-use Rattle.heap.proofs.entry.wide.Reads as wide-reads
+use Rattle.cells.proofs.cell.wide.Reads as wide-reads
 use Rattle.linking.proofs.code.link_at.Reads as link-at-reads
 
 link-at-requires : tie.Need-link-at-requires

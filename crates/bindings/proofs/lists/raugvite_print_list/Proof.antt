@@ -1,7 +1,8 @@
+use mathlib.Core.Path.{ap, _∙_, sym}
 use Rattle.answers.specs.declared.list.Answer.{Answer}
+use Rattle.print.specs.twins.ListedText.{listedText}
+use Rattle.bindings.proofs.ToldLaws.{list-told}
 use Rattle.print.proofs.ListTurns.{same-text}
-use Rattle.print.specs.ListedText.{listedText}
-use mathlib.Core.Path.{ap}
 use borrow.Author.Needs.{needs}
 use Rattle.bindings.proofs.lists.raugvite_print_list.Statement.{statement}
 use Rattle.bindings.proofs.lists.raugvite_print_list.Tie as tie
@@ -20,7 +21,14 @@ same-length : tie.Need-same-length
 same-length c = search needs
 
 returns : tie.Need-returns
-returns c = let a = c .before .before .before .before .before .before .before .before .before .args in same-text _ _ (ap (λ (x : Answer). listedText (a .program .now) (a .job .now) (a .cells .now) x) (c .before .before .before .before .answer-from .ensures)) (c .before .before .print-list .ensures)
+returns c =
+    let f = c .before .before .before .before in
+    let a = f .before .before .before .before .before .before .args in
+    let e = f .answer-from .ensures in
+    let q = c .before .before .print-list .ensures in (
+      same-text _ _ (ap (λ (x : Answer). listedText (a .program .now) (a .job .now) (a .cells .now) x) e) (q .0),
+      λ h. ap (λ (x : Answer). listedText (a .program .now) (a .job .now) (a .cells .now) x) (sym e) ∙ q .1 (h .work) (h .answer) (h .long) (h .left) (e ∙ list-told _ _ _ _ _ h),
+    )
 
 pub raugvite-print-list-spec : {M : Type 1} → statement M
 raugvite-print-list-spec =

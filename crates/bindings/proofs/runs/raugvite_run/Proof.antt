@@ -1,34 +1,21 @@
-use Rattle.bindings.proofs.NumberLaws.{both-stored}
-use Rattle.answers.specs.RunNumbers.{caseOf, firstOf, secondOf}
 use mathlib.Core.Path.{ap, _∙_}
+use Rattle.answers.specs.declared.run.Answer.{Answer}
+use Rattle.answers.specs.Numbers.{saidAfter}
+use Rattle.answers.specs.RunNumbers.{numberOf, saidOf}
+use Rattle.bindings.proofs.ToldLaws.{run-of}
 use borrow.Author.Needs.{needs}
 use Rattle.bindings.proofs.runs.raugvite_run.Statement.{statement}
 use Rattle.bindings.proofs.runs.raugvite_run.Tie as tie
 use Rattle.bindings.proofs.runs.raugvite_run.Reads as reads
 use Rattle.bindings.proofs.runs.raugvite_run.Lts as lts
-use Rattle.bindings.proofs.numbers.store.Reads as store-reads
-use Rattle.answers.proofs.run.case_of.Reads as case-of-reads
-use Rattle.answers.proofs.run.first_of.Reads as first-of-reads
-use Rattle.answers.proofs.run.second_of.Reads as second-of-reads
+use Rattle.answers.proofs.run.tell.Reads as tell-reads
 use Rattle.resolve.proofs.run.run.Reads as run-reads
 
 run-requires : tie.Need-run-requires
 run-requires c κs = search needs
 
-first-of-requires : tie.Need-first-of-requires
-first-of-requires c κs = search needs
-
-store-requires : tie.Need-store-requires
-store-requires c κs = search needs
-
-second-of-requires : tie.Need-second-of-requires
-second-of-requires c κs = search needs
-
-store-requires-2 : tie.Need-store-requires-2
-store-requires-2 c κs = search needs
-
-case-of-requires : tie.Need-case-of-requires
-case-of-requires c κs = search needs
+tell-requires : tie.Need-tell-requires
+tell-requires c κs = search needs
 
 same-length : tie.Need-same-length
 same-length c = search needs
@@ -40,19 +27,15 @@ same-length-3 : tie.Need-same-length-3
 same-length-3 c = search needs
 
 returns : tie.Need-returns
-returns c = let w = c .before .before .before .before .before .before .before .before .before .before .before .before .before .before .before .run .ensures in (c .case-of .ensures ∙ ap caseOf (w .0), w .1, w .2, both-stored (c .before .before .before .before .before .before .before .before .before .before .before .before .before .before .before .before .before .before .before .before .before .before .before .args .said .now) (c .before .before .before .before .before .before .before .before .store .ensures) (c .before .before .before .store2 .ensures) (c .before .before .before .before .before .before .before .before .before .first-of .ensures ∙ ap firstOf (w .0)) (c .before .before .before .before .second-of .ensures ∙ ap secondOf (w .0)))
+returns c =
+    let t = c .before .before in
+    let l = t .before .before .before .before .before .before in
+    let a = l .before .before .before .before .before .before .before .before .args in
+    let w = l .run .ensures .0 in (
+      (t .tell .ensures .0 ∙ ap numberOf (w .0), w .1, w .2, t .tell .ensures .1 ∙ ap (λ (x : Answer). saidAfter (numberOf x) (saidOf x) (a .said .now)) (w .0)),
+      λ p j e. run-of p j (w .0) (l .run .ensures .1 p j e),
+    )
 
 pub raugvite-run-spec : {M : Type 1} → statement M
 raugvite-run-spec =
-    tie.close
-    (tie.spec
-    run-requires
-    first-of-requires
-    store-requires
-    second-of-requires
-    store-requires-2
-    case-of-requires
-    same-length
-    same-length-2
-    same-length-3
-    returns)
+    tie.close (tie.spec run-requires tell-requires same-length same-length-2 same-length-3 returns)

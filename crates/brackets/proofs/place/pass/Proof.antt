@@ -1,4 +1,4 @@
-use Rattle.brackets.specs.Passing.{passed}
+use Rattle.brackets.specs.twins.Passing.{passed}
 use borrow.Author.Tests.{lt-ltb, le-ltb, eq-eqb, ne-eqb}
 use borrow.Author.Needs.{needs}
 use Rattle.brackets.proofs.place.pass.Statement.{statement}

@@ -1,7 +1,7 @@
 -- `argument` enters the value: of a name the range of its entry, which is the same.
 use borrow.Author.Tests.{eq-eqb}
-use Rattle.values.specs.Values.{valueAt}
-use Rattle.calls.specs.Arguments.{argumentAt}
+use Rattle.values.specs.twins.Values.{valueAt}
+use Rattle.calls.specs.twins.Arguments.{argumentAt}
 use borrow.Author.Needs.{needs}
 use Rattle.calls.proofs.arguments.argument.Statement.{statement}
 use Rattle.calls.proofs.arguments.argument.Tie as tie

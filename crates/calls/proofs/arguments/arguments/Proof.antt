@@ -1,5 +1,5 @@
 use mathlib.Core.Path.{_≡_}
-use Rattle.calls.specs.Arguments.{argumentsAt}
+use Rattle.calls.specs.twins.Arguments.{argumentsAt}
 use Rattle.calls.proofs.ArgumentTurns.{arguments-turn, arguments-end}
 use borrow.Author.Needs.{needs}
 use Rattle.calls.proofs.arguments.arguments.Statement.{statement}

@@ -1,12 +1,12 @@
 use borrow.Author.Needs.{needs}
-use Rattle.calls.specs.Calls.{calledTo}
+use Rattle.calls.specs.twins.Calls.{calledTo}
 use Rattle.calls.proofs.call.call.Statement.{statement}
 use Rattle.calls.proofs.call.call.Tie as tie
 use Rattle.calls.proofs.call.call.Reads as reads
 use Rattle.calls.proofs.call.call.Lts as lts
 use Rattle.heap.proofs.entry.move_entries.Reads as move-entries-reads
 use Rattle.linking.proofs.code.link_at.Reads as link-at-reads
-use Rattle.sets.proofs.cell.least.Reads as least-reads
+use Rattle.cells.proofs.cell.least.Reads as least-reads
 use Rattle.calls.proofs.arguments.arguments.Reads as arguments-reads
 use Rattle.calls.proofs.call.in_body.Reads as in-body-reads
 use Rattle.values.proofs.size.kept_nodes.Reads as kept-nodes-reads

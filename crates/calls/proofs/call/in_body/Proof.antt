@@ -1,10 +1,10 @@
 use borrow.Author.Needs.{needs}
-use Rattle.calls.specs.Calls.{inBody}
+use Rattle.calls.specs.twins.Calls.{inBody}
 use Rattle.calls.proofs.call.in_body.Statement.{statement}
 use Rattle.calls.proofs.call.in_body.Tie as tie
 use Rattle.calls.proofs.call.in_body.Reads as reads
 use Rattle.calls.proofs.call.in_body.Lts as lts
-use Rattle.sets.proofs.cell.least.Reads as least-reads
+use Rattle.cells.proofs.cell.least.Reads as least-reads
 
 least-requires : tie.Need-least-requires
 least-requires c κs = search needs

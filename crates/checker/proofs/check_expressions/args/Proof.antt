@@ -2,7 +2,7 @@ use borrow.Author.Tests.{eq-eqb, ne-eqb}
 use mathlib.Core.Path.{_≡_}
 use mathlib.Core.Bool.{true}
 use Rattle.checker.specs.declared.check.Verdict.the-variants.{Fine}
-use Rattle.checker.specs.CheckStored.{argsAt}
+use Rattle.checker.specs.twins.CheckStored.{argsAt}
 use Rattle.checker.proofs.CheckOpenings.{not-zero, is-zero, args-more, args-none}
 use borrow.Author.Needs.{needs}
 use Rattle.checker.proofs.check_expressions.args.Statement.{statement}

@@ -1,4 +1,4 @@
-use Rattle.checker.specs.CheckAt.{eaAt}
+use Rattle.checker.specs.twins.CheckAt.{eaAt}
 use borrow.Author.Needs.{needs}
 use Rattle.checker.proofs.check_expressions.ea.Statement.{statement}
 use Rattle.checker.proofs.check_expressions.ea.Tie as tie

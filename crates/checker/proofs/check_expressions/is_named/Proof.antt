@@ -1,5 +1,5 @@
 use mathlib.Core.Path.{_≡_}
-use Rattle.checker.specs.CheckStored.{isNamed}
+use Rattle.checker.specs.twins.CheckStored.{isNamed}
 use Rattle.checker.proofs.CheckOpenings.{not-zero, is-zero, named-more, named-none}
 use borrow.Author.Needs.{needs}
 use Rattle.checker.proofs.check_expressions.is_named.Statement.{statement}
@@ -11,7 +11,7 @@ use Rattle.checker.proofs.check_expressions.same_name.Reads as same-nam
 
 abbrev Inv-loop : tie.InvT-loop
 Inv-loop marks nums n cells used i left₀ left =
-    isNamed marks nums nums n cells used i ≡ isNamed marks nums nums n cells left i
+    isNamed marks nums n cells used i ≡ isNamed marks nums n cells left i
 
 abbrev μ-loop : tie.MeasureT-loop
 μ-loop marks nums n cells used i left₀ left = left

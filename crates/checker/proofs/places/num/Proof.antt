@@ -4,7 +4,7 @@ use Rattle.checker.proofs.places.num.Statement.{statement}
 use Rattle.checker.proofs.places.num.Tie as tie
 use Rattle.checker.proofs.places.num.Reads as reads
 use Rattle.checker.proofs.places.num.Lts as lts
-use Rattle.lexer.proofs.cells.cell.Reads as cell-reads
+use Rattle.cells.proofs.cell.cell.Reads as cell-reads
 
 cell-requires : tie.Need-cell-requires
 cell-requires c κs = search needs

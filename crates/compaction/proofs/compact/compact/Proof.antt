@@ -1,6 +1,6 @@
 -- `compact` relocates the entries and then moves the cells down.
 use borrow.Author.Tests.{lt-ltb, le-ltb}
-use Rattle.compaction.specs.Compacting.{compacted}
+use Rattle.compaction.specs.twins.Compacting.{compacted}
 use borrow.Author.Needs.{needs}
 use Rattle.compaction.proofs.compact.compact.Statement.{statement}
 use Rattle.compaction.proofs.compact.compact.Tie as tie

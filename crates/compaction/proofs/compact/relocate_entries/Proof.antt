@@ -2,7 +2,7 @@
 use Prim.Native.Nat.{_-_}
 use mathlib.Core.Path.{_≡_}
 use native.Mathlib.Omega.{arith}
-use Rattle.compaction.specs.Compacting.{relocatedFrom, relocatedEntries}
+use Rattle.compaction.specs.twins.Compacting.{relocatedFrom, relocatedEntries}
 use Rattle.compaction.proofs.CompactLaws.{relocate-end, relocate-turn}
 use borrow.Author.Needs.{needs}
 use Rattle.compaction.proofs.compact.relocate_entries.Statement.{statement}

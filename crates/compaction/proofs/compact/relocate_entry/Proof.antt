@@ -1,6 +1,6 @@
 -- `relocate_entry` appends the entry's value and puts its range, where it does not lie below.
 use borrow.Author.Tests.{le-leb, lt-leb}
-use Rattle.compaction.specs.Compacting.{relocatedEntry}
+use Rattle.compaction.specs.twins.Compacting.{relocatedEntry}
 use borrow.Author.Needs.{needs}
 use Rattle.compaction.proofs.compact.relocate_entry.Statement.{statement}
 use Rattle.compaction.proofs.compact.relocate_entry.Tie as tie

@@ -3,7 +3,7 @@ use Prim.Native.Nat.{_-_}
 use mathlib.Core.Path.{_≡_, refl, ap, _∙_, sym as inv}
 use native.Mathlib.Omega.{arith}
 use Rattle.linking.specs.declared.code.Link.{Link}
-use Rattle.constants.specs.Laying.{namedIn}
+use Rattle.constants.specs.twins.Laying.{namedIn}
 use Rattle.constants.proofs.LayTurns.{named-here, named-later, named-none}
 use borrow.Author.Needs.{needs}
 use Rattle.constants.proofs.lay.is_named.Statement.{statement}

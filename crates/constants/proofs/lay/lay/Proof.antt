@@ -7,7 +7,7 @@ use native.Mathlib.Numerals.{add-one}
 use lib.ListN.{length, set}
 use lib.Seq.{sets}
 use Rattle.linking.specs.declared.code.Link.{Link}
-use Rattle.constants.specs.Laying.{cellsOf}
+use Rattle.constants.specs.twins.Laying.{cellsOf}
 use Rattle.constants.proofs.LayTurns.{cells-here, cells-later, cells-none}
 use borrow.Author.Needs.{needs}
 use Rattle.constants.proofs.lay.lay.Statement.{statement}

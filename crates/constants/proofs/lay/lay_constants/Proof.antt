@@ -2,7 +2,7 @@
 use Prim.Native.Nat.{ℕ, _+_, _-_}
 use mathlib.Core.Path.{_≡_, refl, ap, _∙_, sym as inv}
 use native.Mathlib.Omega.{arith}
-use Rattle.constants.specs.Laying.{LaidLeft, laidFrom, constantsLaid}
+use Rattle.constants.specs.twins.Laying.{LaidLeft, laidFrom, constantsLaid}
 use Rattle.constants.proofs.LayTurns.{laid-again, laid-end}
 use borrow.Author.Needs.{needs}
 use Rattle.constants.proofs.lay.lay_constants.Statement.{statement}

@@ -2,7 +2,7 @@
 use mathlib.Core.Path.{ap, _∙_, sym as inv}
 use native.Mathlib.Omega.{arith}
 use Rattle.linking.specs.declared.code.Link.{Link}
-use Rattle.constants.specs.Laying.{laidOne}
+use Rattle.constants.specs.twins.Laying.{laidOne}
 use Rattle.constants.proofs.ConstantLaws.{makes-room}
 use borrow.Author.Needs.{needs}
 use Rattle.constants.proofs.lay.lay_one.Statement.{statement}

@@ -1,6 +1,6 @@
 -- `constant_at` reads the two cells of a token.
 use borrow.Author.Tests.{lt-ltb, le-ltb}
-use Rattle.constants.specs.Table.{constantAt}
+use Rattle.constants.specs.twins.Table.{constantAt}
 use borrow.Author.Needs.{needs}
 use Rattle.constants.proofs.table.constant_at.Statement.{statement}
 use Rattle.constants.proofs.table.constant_at.Tie as tie
@@ -37,7 +37,7 @@ wide-requires-2 c κs = search needs
 
 returns : tie.Need-returns
 unfolding constantAt
-returns c = rw (lt-ltb _ _ (c .before .before .before .before .if1 .taken), ← (c .wide2 .ensures), ← (c .before .wide .ensures))
+returns c = rw (lt-ltb _ _ (c .before .before .before .before .if1 .taken), ← (c .wide2 .ensures .0), ← (c .before .wide .ensures .0))
 
 returns-2 : tie.Need-returns-2
 unfolding constantAt

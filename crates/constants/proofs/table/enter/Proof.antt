@@ -1,6 +1,6 @@
 -- `enter` sets the two cells of a token.
 use borrow.Author.Tests.{lt-ltb, le-ltb}
-use Rattle.constants.specs.Table.{entered}
+use Rattle.constants.specs.twins.Table.{entered}
 use borrow.Author.Needs.{needs}
 use Rattle.constants.proofs.table.enter.Statement.{statement}
 use Rattle.constants.proofs.table.enter.Tie as tie

@@ -1,4 +1,4 @@
-use Rattle.forward.specs.Running.{runInputs}
+use Rattle.forward.specs.twins.Running.{runInputs}
 use borrow.Author.Needs.{needs}
 use Rattle.forward.proofs.inputs.run_inputs.Statement.{statement}
 use Rattle.forward.proofs.inputs.run_inputs.Tie as tie

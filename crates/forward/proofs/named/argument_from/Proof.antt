@@ -1,5 +1,5 @@
 use mathlib.Core.Path.{_≡_}
-use Rattle.forward.specs.Naming.{argumentFrom}
+use Rattle.forward.specs.twins.Naming.{argumentFrom}
 use Rattle.forward.proofs.ForwardTurns.{argument-turn, argument-end}
 use borrow.Author.Needs.{needs}
 use Rattle.forward.proofs.named.argument_from.Statement.{statement}

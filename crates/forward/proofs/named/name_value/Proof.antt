@@ -1,4 +1,4 @@
-use Rattle.forward.specs.Naming.{namedAt}
+use Rattle.forward.specs.twins.Naming.{namedAt}
 use borrow.Author.Needs.{needs}
 use Rattle.forward.proofs.named.name_value.Statement.{statement}
 use Rattle.forward.proofs.named.name_value.Tie as tie

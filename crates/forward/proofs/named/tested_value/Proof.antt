@@ -1,5 +1,5 @@
 use borrow.Author.Tests.{eq-eqb, ne-eqb}
-use Rattle.forward.specs.Naming.{testedNamed}
+use Rattle.forward.specs.twins.Naming.{testedNamed}
 use borrow.Author.Needs.{needs}
 use Rattle.forward.proofs.named.tested_value.Statement.{statement}
 use Rattle.forward.proofs.named.tested_value.Tie as tie

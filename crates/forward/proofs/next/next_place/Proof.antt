@@ -3,7 +3,7 @@ use Rattle.forward.proofs.next.next_place.Statement.{statement}
 use Rattle.forward.proofs.next.next_place.Tie as tie
 use Rattle.forward.proofs.next.next_place.Reads as reads
 use Rattle.forward.proofs.next.next_place.Lts as lts
-use Rattle.heap.proofs.entry.wide.Reads as wide-reads
+use Rattle.cells.proofs.cell.wide.Reads as wide-reads
 use Rattle.linking.proofs.code.link_at.Reads as link-at-reads
 
 link-at-requires : tie.Need-link-at-requires

@@ -1,7 +1,7 @@
 use mathlib.Core.Path.{_≡_, refl}
 use lib.ListN.{length}
 use Prim.Native.Nat.{_-_}
-use Rattle.forward.specs.Output.{tokensPut, outputPut}
+use Rattle.forward.specs.twins.Output.{tokensPut, outputPut}
 use Rattle.forward.proofs.ForwardTurns.{tokens-turn, tokens-end}
 use borrow.Author.Needs.{needs}
 use Rattle.forward.proofs.output.push_output.Statement.{statement}

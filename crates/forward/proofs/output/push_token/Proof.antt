@@ -1,5 +1,5 @@
 use borrow.Author.Tests.{eq-eqb, ne-eqb}
-use Rattle.forward.specs.Output.{tokenPut}
+use Rattle.forward.specs.twins.Output.{tokenPut}
 use borrow.Author.Needs.{needs}
 use Rattle.forward.proofs.output.push_token.Statement.{statement}
 use Rattle.forward.proofs.output.push_token.Tie as tie

@@ -1,11 +1,11 @@
 use borrow.Author.Tests.{le-leb, lt-leb}
-use Rattle.forward.specs.Output.{cellPut}
+use Rattle.forward.specs.twins.Output.{cellPut}
 use borrow.Author.Needs.{needs}
 use Rattle.forward.proofs.output.put_cell.Statement.{statement}
 use Rattle.forward.proofs.output.put_cell.Tie as tie
 use Rattle.forward.proofs.output.put_cell.Reads as reads
 use Rattle.forward.proofs.output.put_cell.Lts as lts
-use Rattle.sets.proofs.cell.put.Reads as put-reads
+use Rattle.cells.proofs.cell.put.Reads as put-reads
 
 returns : tie.Need-returns
 unfolding cellPut

@@ -1,12 +1,12 @@
 use borrow.Author.Tests.{lt-ltb, le-ltb}
-use Rattle.forward.specs.Output.{rangePut}
+use Rattle.forward.specs.twins.Output.{rangePut}
 use borrow.Author.Needs.{needs}
 use Rattle.forward.proofs.output.put_range.Statement.{statement}
 use Rattle.forward.proofs.output.put_range.Tie as tie
 use Rattle.forward.proofs.output.put_range.Reads as reads
 use Rattle.forward.proofs.output.put_range.Lts as lts
-use Rattle.sets.proofs.cell.copy.Reads as copy-reads
-use Rattle.sets.proofs.cell.least.Reads as least-reads
+use Rattle.sets.proofs.tree.copy.Reads as copy-reads
+use Rattle.cells.proofs.cell.least.Reads as least-reads
 
 least-requires : tie.Need-least-requires
 least-requires c κs = search needs

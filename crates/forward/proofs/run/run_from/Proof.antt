@@ -3,7 +3,7 @@ use lib.ListN.{length}
 use Prim.Native.Nat.{ℕ, _-_, _≤_, _<_}
 use mathlib.Core.Bool.{Bool, true, false}
 use lib.Dec.{ltb}
-use Rattle.forward.specs.Running.{ranFrom}
+use Rattle.forward.specs.twins.Running.{ranFrom}
 use Rattle.forward.proofs.ForwardTurns.{run-turn, run-end}
 use borrow.Author.Tests.{ltb-true, ltb-false}
 use native.Mathlib.Omega.{arith}

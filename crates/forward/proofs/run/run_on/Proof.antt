@@ -1,5 +1,5 @@
 use borrow.Author.Tests.{eq-eqb, ne-eqb}
-use Rattle.forward.specs.Running.{ranOn}
+use Rattle.forward.specs.twins.Running.{ranOn}
 use borrow.Author.Needs.{needs}
 use Rattle.forward.proofs.run.run_on.Statement.{statement}
 use Rattle.forward.proofs.run.run_on.Tie as tie

@@ -1,4 +1,4 @@
-use Rattle.forward.specs.Turning.{advanced}
+use Rattle.forward.specs.twins.Turning.{advanced}
 use borrow.Author.Needs.{needs}
 use Rattle.forward.proofs.turn.advance.Statement.{statement}
 use Rattle.forward.proofs.turn.advance.Tie as tie

@@ -1,4 +1,4 @@
-use Rattle.forward.specs.Turning.{finished}
+use Rattle.forward.specs.twins.Turning.{finished}
 use borrow.Author.Needs.{needs}
 use Rattle.forward.proofs.turn.finish.Statement.{statement}
 use Rattle.forward.proofs.turn.finish.Tie as tie

@@ -1,5 +1,5 @@
 use borrow.Author.Tests.{lt-ltb, le-ltb}
-use Rattle.forward.specs.Turning.{roomed}
+use Rattle.forward.specs.twins.Turning.{roomed}
 use borrow.Author.Needs.{needs}
 use Rattle.forward.proofs.turn.make_room.Statement.{statement}
 use Rattle.forward.proofs.turn.make_room.Tie as tie

@@ -1,4 +1,4 @@
-use Rattle.forward.specs.Turning.{turned}
+use Rattle.forward.specs.twins.Turning.{turned}
 use borrow.Author.Needs.{needs}
 use Rattle.forward.proofs.turn.take_turn.Statement.{statement}
 use Rattle.forward.proofs.turn.take_turn.Tie as tie

@@ -1,5 +1,5 @@
 use mathlib.Core.Path.{refl}
-use Rattle.forward.specs.Turning.{usedAs}
+use Rattle.forward.specs.twins.Turning.{usedAs}
 use Rattle.forward.proofs.turn.with_used.Statement.{statement}
 use Rattle.forward.proofs.turn.with_used.Tie as tie
 use Rattle.forward.proofs.turn.with_used.Reads as reads

@@ -1,6 +1,6 @@
 use borrow.Author.Tests.{le-leb, lt-leb, lt-ltb, le-ltb, eq-eqb, ne-eqb}
 use mathlib.Core.Path.{_≡_, refl, ap, _∙_, sym}
-use Rattle.grammar.specs.Stored.{definitionsAt}
+use Rattle.grammar.specs.twins.Stored.{definitionsAt}
 use Rattle.grammar.proofs.TextReaders.{definitions-close, definitions-on, definitions-full}
 use borrow.Author.Needs.{needs}
 use Rattle.grammar.proofs.definitions.definitions_from.Statement.{statement}

@@ -1,6 +1,6 @@
 use borrow.Author.Tests.{le-leb, lt-leb, lt-ltb, le-ltb, eq-eqb, ne-eqb}
 use mathlib.Core.Path.{_≡_, refl, ap, _∙_, sym}
-use Rattle.grammar.specs.Stored.{parametersAt}
+use Rattle.grammar.specs.twins.Stored.{parametersAt}
 use Rattle.grammar.proofs.TextReaders.{parameters-close, parameters-on, parameters-full}
 use borrow.Author.Needs.{needs}
 use Rattle.grammar.proofs.definitions.parameters_from.Statement.{statement}

@@ -1,7 +1,7 @@
 use borrow.Author.Tests.{le-leb, lt-leb, lt-ltb, le-ltb, eq-eqb, ne-eqb}
 use mathlib.Core.Path.{_≡_, refl, ap, _∙_, sym}
 use Prim.Native.Nat.{_-_}
-use Rattle.grammar.specs.Stored.{pairsAt}
+use Rattle.grammar.specs.twins.Stored.{pairsAt}
 use Rattle.grammar.proofs.TextReaders.{pairs-end, pairs-close, pairs-on}
 use borrow.Author.Needs.{needs}
 use Rattle.grammar.proofs.jobs.pairs_from.Statement.{statement}

@@ -1,5 +1,5 @@
 use native.Mathlib.Omega.{arith}
-use Rattle.lexer.proofs.CellLaws.{within-list}
+use Rattle.words.proofs.CellLaws.{within-list}
 use borrow.Author.Tests.{le-leb, lt-leb, lt-ltb, le-ltb, eq-eqb, ne-eqb}
 use borrow.Author.Needs.{needs}
 use Rattle.grammar.proofs.marks.judged.Statement.{statement}

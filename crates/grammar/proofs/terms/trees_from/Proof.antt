@@ -1,7 +1,7 @@
 use borrow.Author.Tests.{le-leb, lt-leb, lt-ltb, le-ltb, eq-eqb, ne-eqb}
 use mathlib.Core.Path.{_≡_, refl, ap, _∙_, sym}
 use Prim.Native.Nat.{_-_}
-use Rattle.grammar.specs.Stored.{treesAt}
+use Rattle.grammar.specs.twins.Stored.{treesAt}
 use Rattle.grammar.proofs.TermReaders.{trees-end, trees-close, trees-on}
 use borrow.Author.Needs.{needs}
 use Rattle.grammar.proofs.terms.trees_from.Statement.{statement}

@@ -1,7 +1,7 @@
 use native.Mathlib.Omega.{arith}
 use borrow.Author.Needs.{needs}
 use borrow.Author.Tests.{lt-ltb, le-ltb}
-use Rattle.heap.specs.Entries.{movedEntries}
+use Rattle.heap.specs.twins.Entries.{movedEntries}
 use Rattle.heap.proofs.entry.move_entries.Statement.{statement}
 use Rattle.heap.proofs.entry.move_entries.Tie as tie
 use Rattle.heap.proofs.entry.move_entries.Reads as reads

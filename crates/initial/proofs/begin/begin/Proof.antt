@@ -1,4 +1,4 @@
-use Rattle.initial.specs.Beginning.{begunAt}
+use Rattle.initial.specs.twins.Beginning.{begunAt}
 use borrow.Author.Needs.{needs}
 use Rattle.initial.proofs.begin.begin.Statement.{statement}
 use Rattle.initial.proofs.begin.begin.Tie as tie

@@ -1,4 +1,4 @@
-use Rattle.initial.specs.Beginning.{jobEntered}
+use Rattle.initial.specs.twins.Beginning.{jobEntered}
 use borrow.Author.Needs.{needs}
 use Rattle.initial.proofs.begin.enter_job.Statement.{statement}
 use Rattle.initial.proofs.begin.enter_job.Tie as tie

@@ -3,9 +3,9 @@ use Rattle.initial.proofs.begin.main_body.Statement.{statement}
 use Rattle.initial.proofs.begin.main_body.Tie as tie
 use Rattle.initial.proofs.begin.main_body.Reads as reads
 use Rattle.initial.proofs.begin.main_body.Lts as lts
-use Rattle.heap.proofs.entry.wide.Reads as wide-reads
+use Rattle.cells.proofs.cell.wide.Reads as wide-reads
 use Rattle.linking.proofs.terms.closing.Reads as closing-reads
-use Rattle.sets.proofs.cell.least.Reads as least-reads
+use Rattle.cells.proofs.cell.least.Reads as least-reads
 
 element-copy-out-wide : tie.Need-element-copy-out-wide
 element-copy-out-wide c = search needs

@@ -1,6 +1,6 @@
 use mathlib.Core.Path.{_≡_}
 use Prim.Native.Nat.{_-_}
-use Rattle.initial.specs.Trees.{treesEntered}
+use Rattle.initial.specs.twins.Trees.{treesEntered}
 use Rattle.initial.proofs.InitialTurns.{trees-turn, trees-end, trees-less}
 use borrow.Author.Needs.{needs}
 use Rattle.initial.proofs.trees.enter_trees.Statement.{statement}
@@ -8,7 +8,7 @@ use Rattle.initial.proofs.trees.enter_trees.Tie as tie
 use Rattle.initial.proofs.trees.enter_trees.Reads as reads
 use Rattle.initial.proofs.trees.enter_trees.Lts as lts
 use Rattle.heap.proofs.entry.push_entry.Reads as push-entry-reads
-use Rattle.sets.proofs.cell.tree_end.Reads as tree-end-reads
+use Rattle.sets.proofs.tree.tree_end.Reads as tree-end-reads
 
 abbrev Inv-loop : tie.InvT-loop
 Inv-loop heap frame₀ n from to k₀ i₀ frame k i =

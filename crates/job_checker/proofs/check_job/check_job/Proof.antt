@@ -1,4 +1,4 @@
-use Rattle.job_checker.specs.JobCheckAt.{jobAt}
+use Rattle.job_checker.specs.twins.JobCheckAt.{jobAt}
 use borrow.Author.Needs.{needs}
 use Rattle.job_checker.proofs.check_job.check_job.Statement.{statement}
 use Rattle.job_checker.proofs.check_job.check_job.Tie as tie

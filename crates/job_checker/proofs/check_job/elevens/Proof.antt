@@ -1,4 +1,4 @@
-use Rattle.job_checker.specs.JobCheckAt.{elevensAt}
+use Rattle.job_checker.specs.twins.JobCheckAt.{elevensAt}
 use borrow.Author.Needs.{needs}
 use Rattle.job_checker.proofs.check_job.elevens.Statement.{statement}
 use Rattle.job_checker.proofs.check_job.elevens.Tie as tie

@@ -1,4 +1,4 @@
-use Rattle.job_checker.specs.JobCheckAt.{inputAt}
+use Rattle.job_checker.specs.twins.JobCheckAt.{inputAt}
 use borrow.Author.Needs.{needs}
 use Rattle.job_checker.proofs.check_job.input.Statement.{statement}
 use Rattle.job_checker.proofs.check_job.input.Tie as tie

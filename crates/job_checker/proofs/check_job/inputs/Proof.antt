@@ -2,7 +2,7 @@ use mathlib.Core.Path.{_≡_}
 use mathlib.Core.Bool.{true}
 use Rattle.checker.specs.declared.check.Verdict.the-variants.{Fine}
 use borrow.Author.Tests.{eq-eqb, ne-eqb}
-use Rattle.job_checker.specs.JobStored.{inputsAt}
+use Rattle.job_checker.specs.twins.JobStored.{inputsAt}
 use Rattle.job_checker.proofs.JobOpenings.{inputs-more, inputs-none}
 use Rattle.checker.proofs.CheckOpenings.{not-zero, is-zero}
 use borrow.Author.Needs.{needs}
@@ -19,7 +19,7 @@ use Rattle.job_checker.proofs.check_job.input.Reads as input-reads
 
 abbrev Inv-loop : tie.InvT-loop
 Inv-loop marks ats n runs main m p i left₀ param₀ as-many₀ fault₀ at₀ left param as-many fault at =
-    inputsAt marks ats ats n runs main m n p true Fine i ≡ inputsAt marks ats ats n runs main m left param as-many fault at
+    inputsAt marks ats n runs main m n p true Fine i ≡ inputsAt marks ats n runs main m left param as-many fault at
 
 abbrev μ-loop : tie.MeasureT-loop
 μ-loop marks ats n runs main m p i left₀ param₀ as-many₀ fault₀ at₀ left param as-many fault at = left

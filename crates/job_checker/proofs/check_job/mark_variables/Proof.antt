@@ -4,8 +4,8 @@ use Prim.Native.Nat.{_+_, _-_}
 use lib.ListN.{length, set, length-set}
 use lib.Dec.{eqb}
 use borrow.Author.Tests.{eq-eqb, ne-eqb}
-use Rattle.checker.specs.StoredAt.{tagAt, numAt}
-use Rattle.job_checker.specs.JobCheckAt.{markedFrom}
+use Rattle.checker.specs.twins.StoredAt.{tagAt, numAt}
+use Rattle.job_checker.specs.twins.JobCheckAt.{markedFrom}
 use Rattle.job_checker.proofs.JobOpenings.{marked-none, marked-here, marked-on}
 use borrow.Author.Needs.{needs}
 use Rattle.job_checker.proofs.check_job.mark_variables.Statement.{statement}
@@ -14,7 +14,7 @@ use Rattle.job_checker.proofs.check_job.mark_variables.Reads as reads
 use Rattle.job_checker.proofs.check_job.mark_variables.Lts as lts
 use Rattle.checker.proofs.places.kind.Reads as kind-reads
 use Rattle.checker.proofs.places.num.Reads as num-reads
-use Rattle.lexer.proofs.cells.put.Reads as put-reads
+use Rattle.cells.proofs.cell.put.Reads as put-reads
 
 abbrev Inv-loop : tie.InvT-loop
 Inv-loop marks nums n end j marked₀ at₀ marked at =

@@ -1,6 +1,6 @@
 use mathlib.Core.Path.{_≡_}
 use borrow.Author.Tests.{le-leb, le-ltb, lt-leb, lt-ltb}
-use Rattle.job_checker.specs.JobStored.{numeralFrom}
+use Rattle.job_checker.specs.twins.JobStored.{numeralFrom}
 use Rattle.job_checker.proofs.JobOpenings.{numeral-more, numeral-none}
 use Rattle.checker.proofs.CheckOpenings.{not-zero, is-zero}
 use borrow.Author.Needs.{needs}
@@ -9,7 +9,7 @@ use Rattle.job_checker.proofs.check_job.numeral.Tie as tie
 use Rattle.job_checker.proofs.check_job.numeral.Reads as reads
 use Rattle.job_checker.proofs.check_job.numeral.Lts as lts
 use Rattle.checker.proofs.places.ahead.Reads as ahead-reads
-use Rattle.lexer.proofs.cells.byte.Reads as byte-reads
+use Rattle.cells.proofs.cell.byte.Reads as byte-reads
 
 abbrev Inv-loop : tie.InvT-loop
 Inv-loop text left i v more₀ at₀ value₀ more at value =

@@ -7,7 +7,7 @@ use Rattle.checker.proofs.check.both.Reads as both-reads
 use Rattle.checker.proofs.check.either.Reads as either-reads
 use Rattle.checker.proofs.places.kind.Reads as kind-reads
 use Rattle.checker.proofs.places.num.Reads as num-reads
-use Rattle.lexer.proofs.cells.cell.Reads as cell-reads
+use Rattle.cells.proofs.cell.cell.Reads as cell-reads
 use Rattle.job_checker.proofs.check_job.atomic.Reads as atomic-reads
 
 num-requires : tie.Need-num-requires

@@ -1,6 +1,6 @@
 use mathlib.Core.Path.{_≡_}
 use borrow.Author.Tests.{eq-eqb, ne-eqb}
-use Rattle.job_checker.specs.JobStored.{sidesAt}
+use Rattle.job_checker.specs.twins.JobStored.{sidesAt}
 use Rattle.job_checker.proofs.JobOpenings.{sides-more, sides-none}
 use Rattle.checker.proofs.CheckOpenings.{not-zero, is-zero}
 use borrow.Author.Needs.{needs}

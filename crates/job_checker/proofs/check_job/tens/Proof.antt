@@ -1,4 +1,4 @@
-use Rattle.job_checker.specs.JobCheckAt.{tensAt}
+use Rattle.job_checker.specs.twins.JobCheckAt.{tensAt}
 use borrow.Author.Needs.{needs}
 use Rattle.job_checker.proofs.check_job.tens.Statement.{statement}
 use Rattle.job_checker.proofs.check_job.tens.Tie as tie

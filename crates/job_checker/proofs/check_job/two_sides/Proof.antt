@@ -1,4 +1,4 @@
-use Rattle.job_checker.specs.JobCheckAt.{twoSides}
+use Rattle.job_checker.specs.twins.JobCheckAt.{twoSides}
 use borrow.Author.Needs.{needs}
 use Rattle.job_checker.proofs.check_job.two_sides.Statement.{statement}
 use Rattle.job_checker.proofs.check_job.two_sides.Tie as tie

@@ -1,13 +1,13 @@
 use borrow.Author.Tests.{eq-eqb, ne-eqb}
-use Rattle.layout.specs.Data.{datumCell}
+use Rattle.layout.specs.twins.Data.{datumCell}
 use borrow.Author.Needs.{needs}
 use Rattle.layout.proofs.datum.datum_cell.Statement.{statement}
 use Rattle.layout.proofs.datum.datum_cell.Tie as tie
 use Rattle.layout.proofs.datum.datum_cell.Reads as reads
 use Rattle.layout.proofs.datum.datum_cell.Lts as lts
-use Rattle.layout.proofs.datum.key.Reads as key-reads
-use Rattle.layout.proofs.datum.kind.Reads as kind-reads
-use Rattle.sets.proofs.cell.cell.Reads as cell-reads
+use Rattle.linking.proofs.tokens.key.Reads as key-reads
+use Rattle.linking.proofs.tokens.kind.Reads as kind-reads
+use Rattle.cells.proofs.cell.cell.Reads as cell-reads
 use Rattle.sets.proofs.contraction.code.Reads as code-reads
 
 key-requires : tie.Need-key-requires

@@ -1,7 +1,7 @@
 use mathlib.Core.Path.{_≡_}
 use Prim.Native.Nat.{_-_}
 use lib.ListN.{length}
-use Rattle.layout.specs.Data.{dataWritten}
+use Rattle.layout.specs.twins.Data.{dataWritten}
 use Rattle.layout.proofs.LayoutTurns.{data-turn, data-end}
 use borrow.Author.Needs.{needs}
 use Rattle.layout.proofs.datum.lay_data.Statement.{statement}

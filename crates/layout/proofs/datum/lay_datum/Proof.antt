@@ -1,5 +1,5 @@
 use borrow.Author.Tests.{eq-eqb, ne-eqb}
-use Rattle.layout.specs.Data.{datumWritten}
+use Rattle.layout.specs.twins.Data.{datumWritten}
 use borrow.Author.Needs.{needs}
 use Rattle.layout.proofs.datum.lay_datum.Statement.{statement}
 use Rattle.layout.proofs.datum.lay_datum.Tie as tie

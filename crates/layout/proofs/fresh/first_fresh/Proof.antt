@@ -1,5 +1,5 @@
 use native.Mathlib.Omega.{arith}
-use Rattle.layout.specs.Fresh.{firstFreshCells}
+use Rattle.layout.specs.twins.Fresh.{firstFreshCells}
 use borrow.Author.Needs.{needs}
 use Rattle.layout.proofs.fresh.first_fresh.Statement.{statement}
 use Rattle.layout.proofs.fresh.first_fresh.Tie as tie

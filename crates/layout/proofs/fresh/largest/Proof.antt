@@ -1,8 +1,8 @@
 use Prim.Native.Nat.{_-_, _≤_, max, min}
 use mathlib.Core.Path.{_≡_, _∙_}
 use native.Mathlib.Omega.{arith}
-use Rattle.runs.specs.Runs.{run}
-use Rattle.layout.specs.Fresh.{largestRun}
+use Rattle.runs.specs.twins.Runs.{run}
+use Rattle.layout.specs.twins.Fresh.{largestRun}
 use Rattle.layout.proofs.LayoutTurns.{largest-turn, largest-end}
 use borrow.Author.Needs.{needs}
 use Rattle.layout.proofs.fresh.largest.Statement.{statement}
@@ -11,7 +11,7 @@ use Rattle.layout.proofs.fresh.largest.Reads as reads
 use Rattle.layout.proofs.fresh.largest.Lts as lts
 use Rattle.layout.proofs.fresh.larger.Reads as larger-reads
 use Rattle.layout.proofs.fresh.number_of.Reads as number-of-reads
-use Rattle.sets.proofs.cell.least.Reads as least-reads
+use Rattle.cells.proofs.cell.least.Reads as least-reads
 
 abbrev Inv-loop : tie.InvT-loop
 Inv-loop heap n count most₀ i₀ most i = (most ≤ 16383) × (largestRun (run 0 (min n 65535) heap) ≡ max most (largestRun (run i count heap)))

@@ -1,4 +1,4 @@
-use Rattle.layout.specs.Laying.{endsLaid}
+use Rattle.layout.specs.twins.Laying.{endsLaid}
 use borrow.Author.Needs.{needs}
 use Rattle.layout.proofs.job.lay_ends.Statement.{statement}
 use Rattle.layout.proofs.job.lay_ends.Tie as tie

@@ -1,4 +1,4 @@
-use Rattle.layout.specs.Laying.{jobLaid}
+use Rattle.layout.specs.twins.Laying.{jobLaid}
 use borrow.Author.Needs.{needs}
 use Rattle.layout.proofs.job.lay_job.Statement.{statement}
 use Rattle.layout.proofs.job.lay_job.Tie as tie

@@ -1,4 +1,4 @@
-use Rattle.layout.specs.Laying.{outputLaid}
+use Rattle.layout.specs.twins.Laying.{outputLaid}
 use borrow.Author.Needs.{needs}
 use Rattle.layout.proofs.job.lay_output.Statement.{statement}
 use Rattle.layout.proofs.job.lay_output.Tie as tie

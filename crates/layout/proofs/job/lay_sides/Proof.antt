@@ -1,4 +1,4 @@
-use Rattle.layout.specs.Laying.{sidesLaid}
+use Rattle.layout.specs.twins.Laying.{sidesLaid}
 use borrow.Author.Needs.{needs}
 use Rattle.layout.proofs.job.lay_sides.Statement.{statement}
 use Rattle.layout.proofs.job.lay_sides.Tie as tie

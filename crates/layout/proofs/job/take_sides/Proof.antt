@@ -1,11 +1,11 @@
-use Rattle.layout.specs.Laying.{sidesTaken}
+use Rattle.layout.specs.twins.Laying.{sidesTaken}
 use borrow.Author.Needs.{needs}
 use Rattle.layout.proofs.job.take_sides.Statement.{statement}
 use Rattle.layout.proofs.job.take_sides.Tie as tie
 use Rattle.layout.proofs.job.take_sides.Reads as reads
 use Rattle.layout.proofs.job.take_sides.Lts as lts
-use Rattle.sets.proofs.cell.copy.Reads as copy-reads
-use Rattle.sets.proofs.cell.least.Reads as least-reads
+use Rattle.sets.proofs.tree.copy.Reads as copy-reads
+use Rattle.cells.proofs.cell.least.Reads as least-reads
 use Rattle.sets.proofs.restriction.simplify.Reads as simplify-reads
 
 least-requires : tie.Need-least-requires

@@ -2,8 +2,8 @@ use mathlib.Core.Path.{_≡_, refl, ap, _∙_, sym}
 use native.Mathlib.Omega.{arith}
 use Prim.Native.Nat.{_-_, _≤_}
 use lib.ListN.{length}
-use Rattle.lexer.specs.Chains.{Linked}
-use Rattle.lexer.specs.Lexed.{starting, cutFrom}
+use Rattle.lexer.specs.twins.Chains.{Linked}
+use Rattle.lexer.specs.twins.Lexed.{starting, cutFrom}
 use Rattle.lexer.proofs.ChainLaws.{linked-start, linked-turn}
 use Rattle.lexer.proofs.LexedLaws.{state, cut-end, cut-shut, turned, length-stored, length-entered}
 use borrow.Author.Needs.{needs}

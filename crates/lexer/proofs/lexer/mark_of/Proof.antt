@@ -4,7 +4,7 @@ use Rattle.lexer.proofs.lexer.mark_of.Statement.{statement}
 use Rattle.lexer.proofs.lexer.mark_of.Tie as tie
 use Rattle.lexer.proofs.lexer.mark_of.Reads as reads
 use Rattle.lexer.proofs.lexer.mark_of.Lts as lts
-use Rattle.lexer.proofs.lexer.low.Reads as low-reads
+use Rattle.cells.proofs.cell.low.Reads as low-reads
 
 mul-sum : tie.Need-mul-sum
 mul-sum c = search needs

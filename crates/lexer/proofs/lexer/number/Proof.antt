@@ -4,7 +4,7 @@ use Rattle.lexer.proofs.lexer.number.Statement.{statement}
 use Rattle.lexer.proofs.lexer.number.Tie as tie
 use Rattle.lexer.proofs.lexer.number.Reads as reads
 use Rattle.lexer.proofs.lexer.number.Lts as lts
-use Rattle.lexer.proofs.words.value.Reads as value-reads
+use Rattle.words.proofs.fit.value.Reads as value-reads
 
 value-requires : tie.Need-value-requires
 value-requires c κs = search needs

@@ -4,7 +4,7 @@ use Rattle.lexer.proofs.lexer.shifted_by.Statement.{statement}
 use Rattle.lexer.proofs.lexer.shifted_by.Tie as tie
 use Rattle.lexer.proofs.lexer.shifted_by.Reads as reads
 use Rattle.lexer.proofs.lexer.shifted_by.Lts as lts
-use Rattle.lexer.proofs.lexer.low.Reads as low-reads
+use Rattle.cells.proofs.cell.low.Reads as low-reads
 
 add-low : tie.Need-add-low
 add-low c = search needs

@@ -3,7 +3,7 @@ use Rattle.lexer.proofs.table.enter.Statement.{statement}
 use Rattle.lexer.proofs.table.enter.Tie as tie
 use Rattle.lexer.proofs.table.enter.Reads as reads
 use Rattle.lexer.proofs.table.enter.Lts as lts
-use Rattle.lexer.proofs.cells.put.Reads as put-reads
+use Rattle.cells.proofs.cell.put.Reads as put-reads
 
 mul-place : tie.Need-mul-place
 mul-place c = search needs

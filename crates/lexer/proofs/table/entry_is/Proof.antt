@@ -4,7 +4,7 @@ use Rattle.lexer.proofs.table.entry_is.Statement.{statement}
 use Rattle.lexer.proofs.table.entry_is.Tie as tie
 use Rattle.lexer.proofs.table.entry_is.Reads as reads
 use Rattle.lexer.proofs.table.entry_is.Lts as lts
-use Rattle.lexer.proofs.cells.cell.Reads as cell-reads
+use Rattle.cells.proofs.cell.cell.Reads as cell-reads
 use Rattle.lexer.proofs.table.stands.Reads as stands-reads
 
 mul-place : tie.Need-mul-place

@@ -1,7 +1,7 @@
 use mathlib.Core.Path.{_≡_, refl, ap, _∙_, sym}
 use native.Mathlib.Omega.{arith}
 use Prim.Native.Nat.{_+_, _-_, _≤_}
-use Rattle.lexer.specs.Table.{findAt}
+use Rattle.lexer.specs.twins.Table.{findAt}
 use Rattle.lexer.proofs.TableLaws.{find-none, find-here, find-on}
 use borrow.Author.Needs.{needs}
 use Rattle.lexer.proofs.table.find.Statement.{statement}

@@ -7,7 +7,7 @@ use Rattle.lexer.proofs.table.find_linked.Statement.{statement}
 use Rattle.lexer.proofs.table.find_linked.Tie as tie
 use Rattle.lexer.proofs.table.find_linked.Reads as reads
 use Rattle.lexer.proofs.table.find_linked.Lts as lts
-use Rattle.lexer.proofs.cells.cell.Reads as cell-reads
+use Rattle.cells.proofs.cell.cell.Reads as cell-reads
 use Rattle.lexer.proofs.table.bucket.Reads as bucket-reads
 use Rattle.lexer.proofs.table.entry_is.Reads as entry-is-reads
 

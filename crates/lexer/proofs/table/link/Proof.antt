@@ -6,8 +6,8 @@ use Rattle.lexer.proofs.table.link.Statement.{statement}
 use Rattle.lexer.proofs.table.link.Tie as tie
 use Rattle.lexer.proofs.table.link.Reads as reads
 use Rattle.lexer.proofs.table.link.Lts as lts
-use Rattle.lexer.proofs.cells.cell.Reads as cell-reads
-use Rattle.lexer.proofs.cells.put.Reads as put-reads
+use Rattle.cells.proofs.cell.cell.Reads as cell-reads
+use Rattle.cells.proofs.cell.put.Reads as put-reads
 use Rattle.lexer.proofs.table.bucket.Reads as bucket-reads
 
 mul-cell : tie.Need-mul-cell

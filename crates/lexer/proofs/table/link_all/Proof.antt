@@ -2,7 +2,7 @@ use mathlib.Core.Path.{_≡_, refl, ap, _∙_, sym}
 use native.Mathlib.Omega.{arith}
 use Prim.Native.Nat.{_+_, _-_}
 use lib.ListN.{length}
-use Rattle.lexer.specs.Chains.{linked, linkedAll}
+use Rattle.lexer.specs.twins.Chains.{linked, linkedAll}
 use Rattle.lexer.proofs.ChainLaws.{all-none, all-more, length-linked}
 use borrow.Author.Needs.{needs}
 use Rattle.lexer.proofs.table.link_all.Statement.{statement}

@@ -6,10 +6,10 @@ use Rattle.lexer.proofs.table.stands_at.Statement.{statement}
 use Rattle.lexer.proofs.table.stands_at.Tie as tie
 use Rattle.lexer.proofs.table.stands_at.Reads as reads
 use Rattle.lexer.proofs.table.stands_at.Lts as lts
-use Rattle.lexer.proofs.cutting.part.Reads as part-reads
+use Rattle.cells.proofs.part.part.Reads as part-reads
 use Rattle.lexer.proofs.table.word_at.Reads as word-at-reads
-use Rattle.lexer.proofs.words.begins.Reads as begins-reads
-use Rattle.lexer.proofs.words.same.Reads as same-reads
+use Rattle.words.proofs.fit.begins.Reads as begins-reads
+use Rattle.words.proofs.fit.same.Reads as same-reads
 
 part-requires : tie.Need-part-requires
 part-requires c κs = search needs

@@ -1,11 +1,11 @@
-use Rattle.lexer.specs.Cutting.{wordAt}
+use Rattle.words.specs.twins.Cutting.{wordAt}
 use borrow.Author.Needs.{needs}
 use Rattle.lexer.proofs.table.word_at.Statement.{statement}
 use Rattle.lexer.proofs.table.word_at.Tie as tie
 use Rattle.lexer.proofs.table.word_at.Reads as reads
 use Rattle.lexer.proofs.table.word_at.Lts as lts
-use Rattle.lexer.proofs.cutting.part.Reads as part-reads
-use Rattle.lexer.proofs.cutting.piece_end.Reads as piece-end-reads
+use Rattle.cells.proofs.part.part.Reads as part-reads
+use Rattle.words.proofs.cutting.piece_end.Reads as piece-end-reads
 
 piece-end-requires : tie.Need-piece-end-requires
 piece-end-requires c κs = search needs

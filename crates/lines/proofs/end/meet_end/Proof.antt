@@ -1,4 +1,4 @@
-use Rattle.lines.specs.Ends.{metEnd}
+use Rattle.lines.specs.twins.Ends.{metEnd}
 use borrow.Author.Needs.{needs}
 use Rattle.lines.proofs.end.meet_end.Statement.{statement}
 use Rattle.lines.proofs.end.meet_end.Tie as tie

@@ -1,4 +1,4 @@
-use Rattle.lines.specs.Ends.{outputMet}
+use Rattle.lines.specs.twins.Ends.{outputMet}
 use borrow.Author.Needs.{needs}
 use Rattle.lines.proofs.end.meet_output.Statement.{statement}
 use Rattle.lines.proofs.end.meet_output.Tie as tie

@@ -1,5 +1,5 @@
-use Rattle.lines.specs.Lines.{nodesInLine}
-use Rattle.lines.specs.Lines.{lineAdded}
+use Rattle.lines.specs.twins.Lines.{nodesInLine}
+use Rattle.lines.specs.twins.Lines.{lineAdded}
 use borrow.Author.Tests.{le-leb, lt-leb, lt-ltb, le-ltb}
 use borrow.Author.Needs.{needs}
 use Rattle.lines.proofs.line.add_line.Statement.{statement}
@@ -9,7 +9,7 @@ use Rattle.lines.proofs.line.add_line.Lts as lts
 use Rattle.lines.proofs.line.line_nodes.Reads as line-nodes-reads
 use Rattle.lines.proofs.line.one_more.Reads as one-more-reads
 use Rattle.meetings.proofs.line.put_line.Reads as put-line-reads
-use Rattle.sets.proofs.cell.least.Reads as least-reads
+use Rattle.cells.proofs.cell.least.Reads as least-reads
 
 returns : tie.Need-returns
 unfolding lineAdded

@@ -1,11 +1,11 @@
-use Rattle.lines.specs.Lines.{nodesInLine}
+use Rattle.lines.specs.twins.Lines.{nodesInLine}
 use borrow.Author.Needs.{needs}
 use Rattle.lines.proofs.line.line_nodes.Statement.{statement}
 use Rattle.lines.proofs.line.line_nodes.Tie as tie
 use Rattle.lines.proofs.line.line_nodes.Reads as reads
 use Rattle.lines.proofs.line.line_nodes.Lts as lts
 use Rattle.heap.proofs.entry.nodes.Reads as nodes-reads
-use Rattle.sets.proofs.cell.least.Reads as least-reads
+use Rattle.cells.proofs.cell.least.Reads as least-reads
 
 nodes-requires : tie.Need-nodes-requires
 nodes-requires c κs = search needs

@@ -3,7 +3,7 @@ use Rattle.lines.proofs.line.one_more.Statement.{statement}
 use Rattle.lines.proofs.line.one_more.Tie as tie
 use Rattle.lines.proofs.line.one_more.Reads as reads
 use Rattle.lines.proofs.line.one_more.Lts as lts
-use Rattle.sets.proofs.cell.least.Reads as least-reads
+use Rattle.cells.proofs.cell.least.Reads as least-reads
 
 least-requires : tie.Need-least-requires
 least-requires c κs = search needs

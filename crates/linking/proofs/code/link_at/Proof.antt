@@ -1,5 +1,5 @@
 use borrow.Author.Tests.{lt-ltb, le-ltb}
-use Rattle.linking.specs.Code.{linkAt}
+use Rattle.linking.specs.twins.Code.{linkAt}
 use borrow.Author.Needs.{needs}
 use Rattle.linking.proofs.code.link_at.Statement.{statement}
 use Rattle.linking.proofs.code.link_at.Tie as tie

@@ -1,5 +1,5 @@
 use borrow.Author.Tests.{lt-ltb, le-ltb}
-use Rattle.linking.specs.Code.{withLink}
+use Rattle.linking.specs.twins.Code.{withLink}
 use borrow.Author.Needs.{needs}
 use Rattle.linking.proofs.code.set_link.Statement.{statement}
 use Rattle.linking.proofs.code.set_link.Tie as tie

@@ -1,6 +1,6 @@
 use mathlib.Core.Path.{_≡_}
 use Prim.Native.Nat.{_-_}
-use Rattle.linking.specs.Linking.{rangeLinked}
+use Rattle.linking.specs.twins.Linking.{rangeLinked}
 use Rattle.linking.proofs.LinkTurns.{range-turn, range-end}
 use borrow.Author.Needs.{needs}
 use Rattle.linking.proofs.expression.link_range.Statement.{statement}

@@ -1,5 +1,5 @@
 use borrow.Author.Tests.{eq-eqb, ne-eqb}
-use Rattle.linking.specs.Linking.{tokenLink}
+use Rattle.linking.specs.twins.Linking.{tokenLink}
 use borrow.Author.Needs.{needs}
 use Rattle.linking.proofs.expression.token_link.Statement.{statement}
 use Rattle.linking.proofs.expression.token_link.Tie as tie
@@ -9,8 +9,8 @@ use Rattle.linking.proofs.expression.link_of.Reads as link-of-reads
 use Rattle.linking.proofs.names.place_of.Reads as place-of-reads
 use Rattle.linking.proofs.tokens.key.Reads as key-reads
 use Rattle.linking.proofs.tokens.kind.Reads as kind-reads
-use Rattle.linking.proofs.tokens.narrow.Reads as narrow-reads
-use Rattle.sets.proofs.cell.cell.Reads as cell-reads
+use Rattle.cells.proofs.cell.low.Reads as low-reads
+use Rattle.cells.proofs.cell.cell.Reads as cell-reads
 use Rattle.sets.proofs.contraction.code.Reads as code-reads
 
 cell-requires : tie.Need-cell-requires
@@ -45,28 +45,28 @@ returns-2 c = rw (← (c .before .before .before .before .before .before .before
 place-of-requires : tie.Need-place-of-requires
 place-of-requires c κs = search needs
 
-narrow-requires : tie.Need-narrow-requires
-narrow-requires c κs = search needs
+low-requires : tie.Need-low-requires
+low-requires c κs = search needs
 
 link-of-requires-3 : tie.Need-link-of-requires-3
 link-of-requires-3 c κs = search needs
 
 returns-3 : tie.Need-returns-3
 unfolding tokenLink
-returns-3 c = rw (← (c .before .before .before .before .before .before .before .before .cell .ensures), ← (c .before .before .before .before .before .before .before .key .ensures), ne-eqb _ _ (c .before .before .before .before .before .before .if1 .left), ← (c .before .before .before .before .before .kind .ensures), ne-eqb _ _ (c .before .before .before .before .if2 .left), eq-eqb _ _ (c .before .before .before .if3 .taken), ← (c .before .before .place-of .ensures), ← (c .before .narrow .ensures), ← (c .link-of3 .ensures))
+returns-3 c = rw (← (c .before .before .before .before .before .before .before .before .cell .ensures), ← (c .before .before .before .before .before .before .before .key .ensures), ne-eqb _ _ (c .before .before .before .before .before .before .if1 .left), ← (c .before .before .before .before .before .kind .ensures), ne-eqb _ _ (c .before .before .before .before .if2 .left), eq-eqb _ _ (c .before .before .before .if3 .taken), ← (c .before .before .place-of .ensures), ← (c .before .low .ensures), ← (c .link-of3 .ensures))
 
 place-of-requires-2 : tie.Need-place-of-requires-2
 place-of-requires-2 c κs = search needs
 
-narrow-requires-2 : tie.Need-narrow-requires-2
-narrow-requires-2 c κs = search needs
+low-requires-2 : tie.Need-low-requires-2
+low-requires-2 c κs = search needs
 
 link-of-requires-4 : tie.Need-link-of-requires-4
 link-of-requires-4 c κs = search needs
 
 returns-4 : tie.Need-returns-4
 unfolding tokenLink
-returns-4 c = rw (← (c .before .before .before .before .before .before .before .before .before .cell .ensures), ← (c .before .before .before .before .before .before .before .before .key .ensures), ne-eqb _ _ (c .before .before .before .before .before .before .before .if1 .left), ← (c .before .before .before .before .before .before .kind .ensures), ne-eqb _ _ (c .before .before .before .before .before .if2 .left), ne-eqb _ _ (c .before .before .before .before .if3 .left), eq-eqb _ _ (c .before .before .before .if4 .taken), ← (c .before .before .place-of2 .ensures), ← (c .before .narrow2 .ensures), ← (c .link-of4 .ensures))
+returns-4 c = rw (← (c .before .before .before .before .before .before .before .before .before .cell .ensures), ← (c .before .before .before .before .before .before .before .before .key .ensures), ne-eqb _ _ (c .before .before .before .before .before .before .before .if1 .left), ← (c .before .before .before .before .before .before .kind .ensures), ne-eqb _ _ (c .before .before .before .before .before .if2 .left), ne-eqb _ _ (c .before .before .before .before .if3 .left), eq-eqb _ _ (c .before .before .before .if4 .taken), ← (c .before .before .place-of2 .ensures), ← (c .before .low2 .ensures), ← (c .link-of4 .ensures))
 
 link-of-requires-5 : tie.Need-link-of-requires-5
 link-of-requires-5 c κs = search needs
@@ -89,11 +89,11 @@ token-link-spec =
     link-of-requires-2
     returns-2
     place-of-requires
-    narrow-requires
+    low-requires
     link-of-requires-3
     returns-3
     place-of-requires-2
-    narrow-requires-2
+    low-requires-2
     link-of-requires-4
     returns-4
     link-of-requires-5

@@ -1,5 +1,5 @@
 use borrow.Author.Tests.{lt-ltb, le-ltb}
-use Rattle.linking.specs.Linking.{boundName}
+use Rattle.linking.specs.twins.Linking.{boundName}
 use borrow.Author.Needs.{needs}
 use Rattle.linking.proofs.names.bind.Statement.{statement}
 use Rattle.linking.proofs.names.bind.Tie as tie

@@ -1,6 +1,6 @@
 use mathlib.Core.Path.{_≡_}
 use Prim.Native.Nat.{_-_, min}
-use Rattle.linking.specs.Linking.{placeOf, placeFrom}
+use Rattle.linking.specs.twins.Linking.{placeOf, placeFrom}
 use Rattle.linking.proofs.LinkTurns.{all-left, place-turn, place-end}
 use borrow.Author.Needs.{needs}
 use Rattle.linking.proofs.names.place_of.Statement.{statement}
@@ -8,7 +8,7 @@ use Rattle.linking.proofs.names.place_of.Tie as tie
 use Rattle.linking.proofs.names.place_of.Reads as reads
 use Rattle.linking.proofs.names.place_of.Lts as lts
 use Rattle.linking.proofs.tokens.same_name.Reads as same-name-reads
-use Rattle.sets.proofs.cell.least.Reads as least-reads
+use Rattle.cells.proofs.cell.least.Reads as least-reads
 
 abbrev Inv-loop : tie.InvT-loop
 Inv-loop marks nums names used i n j₀ j =

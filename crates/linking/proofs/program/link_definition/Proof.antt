@@ -1,4 +1,4 @@
-use Rattle.linking.specs.Linking.{definitionLinked}
+use Rattle.linking.specs.twins.Linking.{definitionLinked}
 use borrow.Author.Needs.{needs}
 use Rattle.linking.proofs.program.link_definition.Statement.{statement}
 use Rattle.linking.proofs.program.link_definition.Tie as tie

@@ -1,6 +1,6 @@
 use mathlib.Core.Path.{_≡_}
 use Prim.Native.Nat.{_-_}
-use Rattle.linking.specs.Linking.{parametersLinked}
+use Rattle.linking.specs.twins.Linking.{parametersLinked}
 use Rattle.linking.proofs.LinkTurns.{parameters-turn, parameters-end}
 use borrow.Author.Needs.{needs}
 use Rattle.linking.proofs.program.link_parameters.Statement.{statement}

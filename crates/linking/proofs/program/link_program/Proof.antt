@@ -1,6 +1,6 @@
 use mathlib.Core.Path.{_≡_}
 use Prim.Native.Nat.{_-_, min}
-use Rattle.linking.specs.Linking.{linked, programLinked, definitionsLinked}
+use Rattle.linking.specs.twins.Linking.{linked, programLinked, definitionsLinked}
 use Rattle.linking.proofs.LinkTurns.{all-left, definitions-turn, definitions-end}
 use borrow.Author.Needs.{needs}
 use Rattle.linking.proofs.program.link_program.Statement.{statement}
@@ -8,8 +8,8 @@ use Rattle.linking.proofs.program.link_program.Tie as tie
 use Rattle.linking.proofs.program.link_program.Reads as reads
 use Rattle.linking.proofs.program.link_program.Lts as lts
 use Rattle.linking.proofs.program.link_definition.Reads as link-definition-reads
-use Rattle.linking.proofs.tokens.wide.Reads as wide-reads
-use Rattle.sets.proofs.cell.least.Reads as least-reads
+use Rattle.cells.proofs.cell.wide.Reads as wide-reads
+use Rattle.cells.proofs.cell.least.Reads as least-reads
 
 abbrev Inv-loop : tie.InvT-loop
 Inv-loop marks nums ends heads count code₀ names₀ n j₀ code names j =
@@ -43,7 +43,7 @@ loop-less : tie.Need-loop-less Inv-loop μ-loop
 loop-less c = search needs
 
 loop-again : tie.Need-loop-again Inv-loop μ-loop
-loop-again c = (c .before .before .before .before .before .before .loop .inv .0, rw (c .before .before .before .before .before .before .loop .inv .1, definitions-turn (c .before .before .before .before .before .loop-test .taken), ← (c .before .before .before .wide .ensures), ← (c .link-definition .ensures)))
+loop-again c = (c .before .before .before .before .before .before .loop .inv .0, rw (c .before .before .before .before .before .before .loop .inv .1, definitions-turn (c .before .before .before .before .before .loop-test .taken), ← (c .before .before .before .wide .ensures .0), ← (c .link-definition .ensures)))
 
 returns : tie.Need-returns Inv-loop μ-loop
 returns c = rw (c .before .loop .inv .1, definitions-end (c .loop-test .left))

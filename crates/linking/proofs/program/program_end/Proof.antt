@@ -26,7 +26,7 @@ returns c =
     let m = k .before in
     let w = m .before in
     let h = w .before in
-    rw (← (h .before .less .ensures), ← (h .cell .ensures), ← (w .wide .ensures), ← (m .less2 .ensures), ← (k .cell2 .ensures)) (c .wide2 .ensures)
+    rw (← (h .before .less .ensures), ← (h .cell .ensures), ← (w .wide .ensures .0), ← (m .less2 .ensures), ← (k .cell2 .ensures)) (c .wide2 .ensures .0)
 
 pub program-end-spec : {M : Type 1} → statement M
 program-end-spec =

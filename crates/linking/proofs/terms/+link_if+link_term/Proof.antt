@@ -20,7 +20,7 @@ use Rattle.linking.proofs.terms.if_link.Reads as if-link-reads
 use Rattle.linking.proofs.terms.true_names.Reads as true-names-reads
 use Rattle.linking.proofs.tokens.on.Reads as on-reads
 use Rattle.linking.proofs.tokens.past.Reads as past-reads
-use Rattle.linking.proofs.tokens.wide.Reads as wide-reads
+use Rattle.cells.proofs.cell.wide.Reads as wide-reads
 use Rattle.linking.proofs.terms.+link_if+link_term.{statement}
 use Rattle.linking.proofs.terms.+link_if+link_term.Tie.{close}
 
@@ -308,7 +308,7 @@ link-if-returns : (t : ℕ) → link-if-lts.Need-returns (
   false-names-reads.Learnt,
 ) (link-if-at t) link-if.Post
 link-if-returns t c =
-    if-by _ _ _ _ _ _ _ _ _ _ (c .before .before .before .before .before .before .before .before .before .before .before .before .before .before .before .before .before .before .before .before .before .if-link .ensures) (c .before .before .before .before .before .before .before .before .before .before .before .before .before .before .before .before .before .before .before .before .wide .ensures) (c .before .before .before .before .before .before .before .before .before .before .before .before .before .before .before .before .before .before .before .wide2 .ensures) (c .before .before .before .before .before .before .before .before .before .before .before .before .before .before .before .before .before .before .on .ensures) (c .before .before .before .before .before .before .before .before .before .before .before .before .before .before .before .before .before .past .ensures) (c .before .before .before .before .before .before .before .before .before .before .before .before .before .before .before .set-link .ensures)
+    if-by _ _ _ _ _ _ _ _ _ _ (c .before .before .before .before .before .before .before .before .before .before .before .before .before .before .before .before .before .before .before .before .before .if-link .ensures) (c .before .before .before .before .before .before .before .before .before .before .before .before .before .before .before .before .before .before .before .before .wide .ensures .0) (c .before .before .before .before .before .before .before .before .before .before .before .before .before .before .before .before .before .before .before .wide2 .ensures .0) (c .before .before .before .before .before .before .before .before .before .before .before .before .before .before .before .before .before .before .on .ensures) (c .before .before .before .before .before .before .before .before .before .before .before .before .before .before .before .before .before .past .ensures) (c .before .before .before .before .before .before .before .before .before .before .before .before .before .before .before .set-link .ensures)
     (c .before .before .before .before .before .before .before .before .before .before .before .before .link-range .ensures) (c .before .before .before .before .before .before .before .before .before .true-names .ensures) (c .before .before .before .before .before .before .link-term .ensures) (c .before .before .before .false-names .ensures) (c .link-term2 .ensures)
 
 link-term-past-requires : (t : ℕ) → link-term-lts.Need-past-requires (

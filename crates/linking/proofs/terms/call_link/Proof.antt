@@ -1,4 +1,4 @@
-use Rattle.linking.specs.Linking.{callLink}
+use Rattle.linking.specs.twins.Linking.{callLink}
 use borrow.Author.Needs.{needs}
 use Rattle.linking.proofs.terms.call_link.Statement.{statement}
 use Rattle.linking.proofs.terms.call_link.Tie as tie
@@ -6,10 +6,10 @@ use Rattle.linking.proofs.terms.call_link.Reads as reads
 use Rattle.linking.proofs.terms.call_link.Lts as lts
 use Rattle.linking.proofs.terms.closing.Reads as closing-reads
 use Rattle.linking.proofs.terms.head_of.Reads as head-of-reads
-use Rattle.linking.proofs.tokens.narrow.Reads as narrow-reads
+use Rattle.cells.proofs.cell.low.Reads as low-reads
 use Rattle.linking.proofs.tokens.on.Reads as on-reads
-use Rattle.sets.proofs.cell.cell.Reads as cell-reads
-use Rattle.sets.proofs.cell.least.Reads as least-reads
+use Rattle.cells.proofs.cell.cell.Reads as cell-reads
+use Rattle.cells.proofs.cell.least.Reads as least-reads
 
 on-requires : tie.Need-on-requires
 on-requires c κs = search needs
@@ -29,24 +29,24 @@ closing-requires c κs = search needs
 least-requires : tie.Need-least-requires
 least-requires c κs = search needs
 
-sub-narrow : tie.Need-sub-narrow
-sub-narrow c = search needs
+sub-low : tie.Need-sub-low
+sub-low c = search needs
 
-narrow-requires : tie.Need-narrow-requires
-narrow-requires c κs = search needs
+low-requires : tie.Need-low-requires
+low-requires c κs = search needs
 
 on-requires-3 : tie.Need-on-requires-3
 on-requires-3 c κs = search needs
 
-narrow-requires-2 : tie.Need-narrow-requires-2
-narrow-requires-2 c κs = search needs
+low-requires-2 : tie.Need-low-requires-2
+low-requires-2 c κs = search needs
 
 cell-requires-2 : tie.Need-cell-requires-2
 cell-requires-2 c κs = search needs
 
 returns : tie.Need-returns
 unfolding callLink
-returns c = rw (← (c .before .before .before .before .before .before .before .before .before .on .ensures), ← (c .before .before .before .before .before .before .before .before .cell .ensures), ← (c .before .before .before .before .before .before .before .head-of .ensures), ← (c .before .before .before .before .before .before .on2 .ensures), ← (c .before .before .before .before .before .closing .ensures), ← (c .before .before .before .before .least .ensures), ← (c .before .before .before .narrow .ensures), ← (c .before .before .on3 .ensures), ← (c .before .narrow2 .ensures), ← (c .cell2 .ensures))
+returns c = rw (← (c .before .before .before .before .before .before .before .before .before .on .ensures), ← (c .before .before .before .before .before .before .before .before .cell .ensures), ← (c .before .before .before .before .before .before .before .head-of .ensures), ← (c .before .before .before .before .before .before .on2 .ensures), ← (c .before .before .before .before .before .closing .ensures), ← (c .before .before .before .before .least .ensures), ← (c .before .before .before .low .ensures), ← (c .before .before .on3 .ensures), ← (c .before .low2 .ensures), ← (c .cell2 .ensures))
 
 pub call-link-spec : {M : Type 1} → statement M
 call-link-spec =
@@ -58,9 +58,9 @@ call-link-spec =
     on-requires-2
     closing-requires
     least-requires
-    sub-narrow
-    narrow-requires
+    sub-low
+    low-requires
     on-requires-3
-    narrow-requires-2
+    low-requires-2
     cell-requires-2
     returns)

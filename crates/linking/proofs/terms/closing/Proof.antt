@@ -2,7 +2,7 @@ use mathlib.Core.Path.{_≡_}
 use Prim.Native.Nat.{_-_}
 use lib.ListN.{length}
 use borrow.Author.Tests.{eq-eqb, ne-eqb}
-use Rattle.linking.specs.Linking.{closingFrom}
+use Rattle.linking.specs.twins.Linking.{closingFrom}
 use Rattle.linking.proofs.LinkTurns.{closing-turn, closing-end}
 use borrow.Author.Needs.{needs}
 use Rattle.linking.proofs.terms.closing.Statement.{statement}

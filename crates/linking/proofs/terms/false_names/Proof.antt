@@ -1,5 +1,5 @@
 use borrow.Author.Tests.{eq-eqb, ne-eqb}
-use Rattle.linking.specs.Linking.{falseNames}
+use Rattle.linking.specs.twins.Linking.{falseNames}
 use borrow.Author.Needs.{needs}
 use Rattle.linking.proofs.terms.false_names.Statement.{statement}
 use Rattle.linking.proofs.terms.false_names.Tie as tie

@@ -1,5 +1,5 @@
 use borrow.Author.Tests.{eq-eqb, ne-eqb}
-use Rattle.linking.specs.Linking.{formOf}
+use Rattle.linking.specs.twins.Linking.{formOf}
 use borrow.Author.Needs.{needs}
 use Rattle.linking.proofs.terms.form_of.Statement.{statement}
 use Rattle.linking.proofs.terms.form_of.Tie as tie

@@ -1,16 +1,16 @@
 use mathlib.Core.Path.{_≡_}
 use Prim.Native.Nat.{_-_, min}
 use borrow.Author.Tests.{eq-eqb, ne-eqb}
-use Rattle.linking.specs.Linking.{headOf, headFrom}
+use Rattle.linking.specs.twins.Linking.{headOf, headFrom}
 use Rattle.linking.proofs.LinkTurns.{all-left, head-turn, head-end}
 use borrow.Author.Needs.{needs}
 use Rattle.linking.proofs.terms.head_of.Statement.{statement}
 use Rattle.linking.proofs.terms.head_of.Tie as tie
 use Rattle.linking.proofs.terms.head_of.Reads as reads
 use Rattle.linking.proofs.terms.head_of.Lts as lts
-use Rattle.linking.proofs.tokens.wide.Reads as wide-reads
-use Rattle.sets.proofs.cell.cell.Reads as cell-reads
-use Rattle.sets.proofs.cell.least.Reads as least-reads
+use Rattle.cells.proofs.cell.wide.Reads as wide-reads
+use Rattle.cells.proofs.cell.cell.Reads as cell-reads
+use Rattle.cells.proofs.cell.least.Reads as least-reads
 
 abbrev Inv-loop : tie.InvT-loop
 Inv-loop nums heads count name n j₀ j =
@@ -38,7 +38,7 @@ cell-requires : tie.Need-cell-requires Inv-loop μ-loop
 cell-requires c κs = search needs
 
 returns : tie.Need-returns Inv-loop μ-loop
-returns c = rw (c .before .before .before .before .before .loop .inv .1, head-turn (c .before .before .before .before .loop-test .taken), ← (c .before .before .wide .ensures), ← (c .before .cell .ensures), eq-eqb _ _ (c .if1 .taken))
+returns c = rw (c .before .before .before .before .before .loop .inv .1, head-turn (c .before .before .before .before .loop-test .taken), ← (c .before .before .wide .ensures .0), ← (c .before .cell .ensures), eq-eqb _ _ (c .if1 .taken))
 
 add-j : tie.Need-add-j Inv-loop μ-loop
 add-j c = search needs
@@ -47,7 +47,7 @@ loop-less : tie.Need-loop-less Inv-loop μ-loop
 loop-less c = search needs
 
 loop-again : tie.Need-loop-again Inv-loop μ-loop
-loop-again c = (c .before .before .before .before .before .loop .inv .0, rw (c .before .before .before .before .before .loop .inv .1, head-turn (c .before .before .before .before .loop-test .taken), ← (c .before .before .wide .ensures), ← (c .before .cell .ensures), ne-eqb _ _ (c .if1 .left)))
+loop-again c = (c .before .before .before .before .before .loop .inv .0, rw (c .before .before .before .before .before .loop .inv .1, head-turn (c .before .before .before .before .loop-test .taken), ← (c .before .before .wide .ensures .0), ← (c .before .cell .ensures), ne-eqb _ _ (c .if1 .left)))
 
 returns-2 : tie.Need-returns-2 Inv-loop μ-loop
 returns-2 c = rw (c .before .loop .inv .1, head-end (c .loop-test .left))

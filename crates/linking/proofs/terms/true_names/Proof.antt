@@ -1,5 +1,5 @@
 use borrow.Author.Tests.{eq-eqb, ne-eqb}
-use Rattle.linking.specs.Linking.{trueNames}
+use Rattle.linking.specs.twins.Linking.{trueNames}
 use borrow.Author.Needs.{needs}
 use Rattle.linking.proofs.terms.true_names.Statement.{statement}
 use Rattle.linking.proofs.terms.true_names.Tie as tie

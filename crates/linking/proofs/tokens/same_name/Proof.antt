@@ -1,12 +1,12 @@
 use borrow.Author.Tests.{eq-eqb, ne-eqb}
-use Rattle.linking.specs.Linking.{sameName}
+use Rattle.linking.specs.twins.Linking.{sameName}
 use borrow.Author.Needs.{needs}
 use Rattle.linking.proofs.tokens.same_name.Statement.{statement}
 use Rattle.linking.proofs.tokens.same_name.Tie as tie
 use Rattle.linking.proofs.tokens.same_name.Reads as reads
 use Rattle.linking.proofs.tokens.same_name.Lts as lts
 use Rattle.linking.proofs.tokens.kind.Reads as kind-reads
-use Rattle.sets.proofs.cell.cell.Reads as cell-reads
+use Rattle.cells.proofs.cell.cell.Reads as cell-reads
 
 kind-requires : tie.Need-kind-requires
 kind-requires c κs = search needs

@@ -1,4 +1,4 @@
-use Rattle.looking.specs.Looking.{lookAt}
+use Rattle.looking.specs.twins.Looking.{lookAt}
 use borrow.Author.Needs.{needs}
 use Rattle.looking.proofs.look.look.Statement.{statement}
 use Rattle.looking.proofs.look.look.Tie as tie
@@ -6,7 +6,7 @@ use Rattle.looking.proofs.look.look.Reads as reads
 use Rattle.looking.proofs.look.look.Lts as lts
 use Rattle.values.proofs.names.names_from.Reads as names-from-reads
 use Rattle.looking.proofs.look.test_range.Reads as test-range-reads
-use Rattle.sets.proofs.cell.least.Reads as least-reads
+use Rattle.cells.proofs.cell.least.Reads as least-reads
 use Rattle.values.proofs.value.value.Reads as value-reads
 
 least-requires : tie.Need-least-requires

@@ -1,12 +1,12 @@
 use borrow.Author.Tests.{lt-ltb, le-ltb, eq-eqb, ne-eqb}
-use Rattle.looking.specs.Looking.{testedAt}
+use Rattle.looking.specs.twins.Looking.{testedAt}
 use borrow.Author.Needs.{needs}
 use Rattle.looking.proofs.look.test_range.Statement.{statement}
 use Rattle.looking.proofs.look.test_range.Tie as tie
 use Rattle.looking.proofs.look.test_range.Reads as reads
 use Rattle.looking.proofs.look.test_range.Lts as lts
-use Rattle.sets.proofs.cell.least.Reads as least-reads
-use Rattle.sets.proofs.cell.tree_end.Reads as tree-end-reads
+use Rattle.cells.proofs.cell.least.Reads as least-reads
+use Rattle.sets.proofs.tree.tree_end.Reads as tree-end-reads
 
 returns : tie.Need-returns
 unfolding testedAt

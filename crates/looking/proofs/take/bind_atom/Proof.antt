@@ -1,4 +1,4 @@
-use Rattle.looking.specs.Taking.{atomBound}
+use Rattle.looking.specs.twins.Taking.{atomBound}
 use borrow.Author.Needs.{needs}
 use Rattle.looking.proofs.take.bind_atom.Statement.{statement}
 use Rattle.looking.proofs.take.bind_atom.Tie as tie

@@ -1,4 +1,4 @@
-use Rattle.looking.specs.Taking.{partsBound}
+use Rattle.looking.specs.twins.Taking.{partsBound}
 use borrow.Author.Needs.{needs}
 use Rattle.looking.proofs.take.bind_parts.Statement.{statement}
 use Rattle.looking.proofs.take.bind_parts.Tie as tie

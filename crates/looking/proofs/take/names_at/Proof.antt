@@ -1,11 +1,11 @@
-use Rattle.looking.specs.Taking.{namesAt}
+use Rattle.looking.specs.twins.Taking.{namesAt}
 use borrow.Author.Needs.{needs}
 use Rattle.looking.proofs.take.names_at.Statement.{statement}
 use Rattle.looking.proofs.take.names_at.Tie as tie
 use Rattle.looking.proofs.take.names_at.Reads as reads
 use Rattle.looking.proofs.take.names_at.Lts as lts
 use Rattle.linking.proofs.code.link_at.Reads as link-at-reads
-use Rattle.sets.proofs.cell.least.Reads as least-reads
+use Rattle.cells.proofs.cell.least.Reads as least-reads
 
 least-requires : tie.Need-least-requires
 least-requires c κs = search needs

@@ -1,4 +1,4 @@
-use Rattle.looking.specs.Taking.{placedAs}
+use Rattle.looking.specs.twins.Taking.{placedAs}
 use borrow.Author.Needs.{needs}
 use Rattle.looking.proofs.take.placed.Statement.{statement}
 use Rattle.looking.proofs.take.placed.Tie as tie

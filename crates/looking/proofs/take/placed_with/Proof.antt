@@ -1,4 +1,4 @@
-use Rattle.looking.specs.Taking.{placedWith}
+use Rattle.looking.specs.twins.Taking.{placedWith}
 use borrow.Author.Needs.{needs}
 use Rattle.looking.proofs.take.placed_with.Statement.{statement}
 use Rattle.looking.proofs.take.placed_with.Tie as tie

@@ -1,4 +1,4 @@
-use Rattle.looking.specs.Taking.{atomTaken}
+use Rattle.looking.specs.twins.Taking.{atomTaken}
 use borrow.Author.Needs.{needs}
 use Rattle.looking.proofs.take.take_atom.Statement.{statement}
 use Rattle.looking.proofs.take.take_atom.Tie as tie

@@ -1,4 +1,4 @@
-use Rattle.looking.specs.Taking.{pairTaken}
+use Rattle.looking.specs.twins.Taking.{pairTaken}
 use borrow.Author.Needs.{needs}
 use Rattle.looking.proofs.take.take_pair.Statement.{statement}
 use Rattle.looking.proofs.take.take_pair.Tie as tie

@@ -8,7 +8,7 @@ use Rattle.meet.proofs.reader.expression.Kinds as expression-kinds
 use Rattle.meet.proofs.reader.+expression.Lts-expression as expression-lts
 use Rattle.brackets.proofs.place.inside.Reads as inside-reads
 use Rattle.meet.proofs.reader.bracket.Reads as bracket-reads
-use Rattle.meet.proofs.reader.byte.Reads as byte-reads
+use Rattle.cells.proofs.cell.byte.Reads as byte-reads
 use Rattle.meet.proofs.reader.expression_leaf.Reads as expression-leaf-reads
 use Rattle.meet.proofs.reader.pair_start.Reads as pair-start-reads
 use Rattle.meet.proofs.reader.token.Reads as token-reads

@@ -1,5 +1,5 @@
 -- `bind` binds in the non-equalities, and where they stand in the entries.
-use Rattle.meetings.specs.Binding.{variableBound}
+use Rattle.meetings.specs.twins.Binding.{variableBound}
 use borrow.Author.Needs.{needs}
 use Rattle.meetings.proofs.binding.bind.Statement.{statement}
 use Rattle.meetings.proofs.binding.bind.Tie as tie
@@ -7,7 +7,7 @@ use Rattle.meetings.proofs.binding.bind.Reads as reads
 use Rattle.meetings.proofs.binding.bind.Lts as lts
 use Rattle.meetings.proofs.binding.bind_entries.Reads as bind-entries-reads
 use Rattle.heap.proofs.apply.bind_restriction.Reads as bind-restriction-reads
-use Rattle.sets.proofs.cell.cell.Reads as cell-reads
+use Rattle.cells.proofs.cell.cell.Reads as cell-reads
 
 cell-requires : tie.Need-cell-requires
 cell-requires c κs = search needs

@@ -1,5 +1,5 @@
 -- `bind_entries` contracts the entries up to u's.
-use Rattle.meetings.specs.Binding.{entriesBound}
+use Rattle.meetings.specs.twins.Binding.{entriesBound}
 use borrow.Author.Needs.{needs}
 use Rattle.meetings.proofs.binding.bind_entries.Statement.{statement}
 use Rattle.meetings.proofs.binding.bind_entries.Tie as tie

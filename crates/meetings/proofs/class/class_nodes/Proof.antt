@@ -6,7 +6,7 @@ use Rattle.meetings.proofs.class.class_nodes.Reads as reads
 use Rattle.meetings.proofs.class.class_nodes.Lts as lts
 use Rattle.heap.proofs.entry.nodes.Reads as nodes-reads
 use Rattle.meetings.proofs.class.output_entry.Reads as output-entry-reads
-use Rattle.sets.proofs.cell.least.Reads as least-reads
+use Rattle.cells.proofs.cell.least.Reads as least-reads
 
 output-entry-requires : tie.Need-output-entry-requires
 output-entry-requires c κs = search needs

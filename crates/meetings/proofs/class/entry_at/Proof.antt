@@ -1,13 +1,13 @@
 -- `entry_at` reads the two ends.
-use Rattle.meetings.specs.Classes.{placeIn}
+use Rattle.meetings.specs.twins.Classes.{placeIn}
 -- `entry_at` reads the two ends.
 use borrow.Author.Needs.{needs}
 use Rattle.meetings.proofs.class.entry_at.Statement.{statement}
 use Rattle.meetings.proofs.class.entry_at.Tie as tie
 use Rattle.meetings.proofs.class.entry_at.Reads as reads
 use Rattle.meetings.proofs.class.entry_at.Lts as lts
-use Rattle.heap.proofs.entry.wide.Reads as wide-reads
-use Rattle.sets.proofs.cell.least.Reads as least-reads
+use Rattle.cells.proofs.cell.wide.Reads as wide-reads
+use Rattle.cells.proofs.cell.least.Reads as least-reads
 
 least-requires : tie.Need-least-requires
 least-requires c κs = search needs

@@ -5,8 +5,8 @@ use Rattle.meetings.proofs.class.entry_size.Statement.{statement}
 use Rattle.meetings.proofs.class.entry_size.Tie as tie
 use Rattle.meetings.proofs.class.entry_size.Reads as reads
 use Rattle.meetings.proofs.class.entry_size.Lts as lts
-use Rattle.heap.proofs.entry.wide.Reads as wide-reads
-use Rattle.sets.proofs.cell.least.Reads as least-reads
+use Rattle.cells.proofs.cell.wide.Reads as wide-reads
+use Rattle.cells.proofs.cell.least.Reads as least-reads
 
 least-requires : tie.Need-least-requires
 least-requires c κs = search needs

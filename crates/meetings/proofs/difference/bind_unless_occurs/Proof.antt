@@ -1,13 +1,13 @@
 -- `bind_unless_occurs` binds to the tree, unless the variable stands in it.
-use Rattle.meetings.specs.Differing.{unlessStanding}
+use Rattle.meetings.specs.twins.Differing.{unlessStanding}
 use borrow.Author.Needs.{needs}
 use Rattle.meetings.proofs.difference.bind_unless_occurs.Statement.{statement}
 use Rattle.meetings.proofs.difference.bind_unless_occurs.Tie as tie
 use Rattle.meetings.proofs.difference.bind_unless_occurs.Reads as reads
 use Rattle.meetings.proofs.difference.bind_unless_occurs.Lts as lts
-use Rattle.sets.proofs.cell.least.Reads as least-reads
-use Rattle.sets.proofs.cell.stands_in.Reads as stands-in-reads
-use Rattle.sets.proofs.cell.tree_end.Reads as tree-end-reads
+use Rattle.cells.proofs.cell.least.Reads as least-reads
+use Rattle.sets.proofs.tree.stands_in.Reads as stands-in-reads
+use Rattle.sets.proofs.tree.tree_end.Reads as tree-end-reads
 
 tree-end-requires : tie.Need-tree-end-requires
 tree-end-requires c κs = search needs

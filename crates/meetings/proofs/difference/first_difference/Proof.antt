@@ -1,6 +1,6 @@
 -- `first_difference` passes what the two runs have in common: what is left from here on is where the whole differs.
 use Rattle.meetings.proofs.DifferenceTurns.{difference-next, difference-apart, difference-end, difference-short}
-use Rattle.meetings.specs.Differing.{firstDifference}
+use Rattle.meetings.specs.twins.Differing.{firstDifference}
 use native.Mathlib.Omega.{arith}
 use mathlib.Core.Path.{_≡_, refl, _∙_, sym as inv}
 use Prim.Native.Nat.{_-_}

@@ -1,5 +1,5 @@
 -- `leftmost` goes by the first difference.
-use Rattle.meetings.specs.Differing.{leftmostIn}
+use Rattle.meetings.specs.twins.Differing.{leftmostIn}
 use borrow.Author.Tests.{le-leb, lt-leb}
 use borrow.Author.Needs.{needs}
 use Rattle.meetings.proofs.difference.leftmost.Statement.{statement}
@@ -8,7 +8,7 @@ use Rattle.meetings.proofs.difference.leftmost.Reads as reads
 use Rattle.meetings.proofs.difference.leftmost.Lts as lts
 use Rattle.meetings.proofs.difference.first_difference.Reads as first-difference-reads
 use Rattle.meetings.proofs.difference.judge.Reads as judge-reads
-use Rattle.sets.proofs.cell.least.Reads as least-reads
+use Rattle.cells.proofs.cell.least.Reads as least-reads
 
 least-requires : tie.Need-least-requires
 least-requires c κs = search needs

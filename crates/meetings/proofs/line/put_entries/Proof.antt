@@ -3,7 +3,7 @@ use mathlib.Core.Path.{_≡_, refl, _∙_, sym as inv}
 use lib.ListN.{length}
 -- `put_entries` writes one entry after the other. What is left from i on makes what the whole makes.
 use Rattle.meetings.proofs.LineTurns.{entries-start, entries-end, entries-next}
-use Rattle.meetings.specs.LineCells.{entriesPut}
+use Rattle.meetings.specs.twins.LineCells.{entriesPut}
 use native.Mathlib.Omega.{arith}
 use Prim.Native.Nat.{_-_}
 use borrow.Author.Needs.{needs}

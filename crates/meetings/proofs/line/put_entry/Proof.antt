@@ -1,5 +1,5 @@
 -- `put_entry` copies the entry's run.
-use Rattle.meetings.specs.LineCells.{entryPut}
+use Rattle.meetings.specs.twins.LineCells.{entryPut}
 use borrow.Author.Needs.{needs}
 use Rattle.meetings.proofs.line.put_entry.Statement.{statement}
 use Rattle.meetings.proofs.line.put_entry.Tie as tie
@@ -7,8 +7,8 @@ use Rattle.meetings.proofs.line.put_entry.Reads as reads
 use Rattle.meetings.proofs.line.put_entry.Lts as lts
 use Rattle.meetings.proofs.class.entry_at.Reads as entry-at-reads
 use Rattle.meetings.proofs.class.entry_size.Reads as entry-size-reads
-use Rattle.sets.proofs.cell.copy.Reads as copy-reads
-use Rattle.sets.proofs.cell.least.Reads as least-reads
+use Rattle.sets.proofs.tree.copy.Reads as copy-reads
+use Rattle.cells.proofs.cell.least.Reads as least-reads
 
 least-requires : tie.Need-least-requires
 least-requires c κs = search needs

@@ -1,13 +1,13 @@
 -- `put_header` stores four cells.
-use Rattle.meetings.specs.LineCells.{headerPut}
+use Rattle.meetings.specs.twins.LineCells.{headerPut}
 use borrow.Author.Needs.{needs}
 use Rattle.meetings.proofs.line.put_header.Statement.{statement}
 use Rattle.meetings.proofs.line.put_header.Tie as tie
 use Rattle.meetings.proofs.line.put_header.Reads as reads
 use Rattle.meetings.proofs.line.put_header.Lts as lts
-use Rattle.heap.proofs.entry.narrow.Reads as narrow-reads
-use Rattle.sets.proofs.cell.least.Reads as least-reads
-use Rattle.sets.proofs.cell.put.Reads as put-reads
+use Rattle.cells.proofs.cell.narrow.Reads as narrow-reads
+use Rattle.cells.proofs.cell.least.Reads as least-reads
+use Rattle.cells.proofs.cell.put.Reads as put-reads
 
 least-requires : tie.Need-least-requires
 least-requires c κs = search needs

@@ -1,5 +1,5 @@
 -- `put_line` writes the header, the entries and the sides.
-use Rattle.meetings.specs.LineCells.{linePut}
+use Rattle.meetings.specs.twins.LineCells.{linePut}
 use borrow.Author.Needs.{needs}
 use Rattle.meetings.proofs.line.put_line.Statement.{statement}
 use Rattle.meetings.proofs.line.put_line.Tie as tie
@@ -11,8 +11,8 @@ use Rattle.meetings.proofs.class.output_entry.Reads as output-entry-rea
 use Rattle.meetings.proofs.class.wanted_entry.Reads as wanted-entry-reads
 use Rattle.meetings.proofs.line.put_entries.Reads as put-entries-reads
 use Rattle.meetings.proofs.line.put_header.Reads as put-header-reads
-use Rattle.sets.proofs.cell.copy.Reads as copy-reads
-use Rattle.sets.proofs.cell.least.Reads as least-reads
+use Rattle.sets.proofs.tree.copy.Reads as copy-reads
+use Rattle.cells.proofs.cell.least.Reads as least-reads
 
 wanted-entry-requires : tie.Need-wanted-entry-requires
 wanted-entry-requires c κs = search needs

@@ -1,5 +1,5 @@
 -- `make_room` compacts where little is left.
-use Rattle.meetings.specs.Unifying.{roomMade}
+use Rattle.meetings.specs.twins.Unifying.{roomMade}
 use borrow.Author.Tests.{le-leb, lt-leb}
 use borrow.Author.Needs.{needs}
 use Rattle.meetings.proofs.room.make_room.Statement.{statement}

@@ -1,6 +1,6 @@
 -- `unify` goes a turn at a time. What is left to do makes what the whole makes.
 use Rattle.meetings.proofs.UnifierTurns.{many-none, many-on, many-end}
-use Rattle.meetings.specs.Unifying.{unifiedMany, unified}
+use Rattle.meetings.specs.twins.Unifying.{unifiedMany, unified}
 use borrow.Author.Tests.{lt-ltb, le-ltb}
 use mathlib.Core.Path.{_≡_, refl, _∙_, sym as inv}
 use borrow.Author.Needs.{needs}

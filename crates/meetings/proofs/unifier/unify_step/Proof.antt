@@ -1,5 +1,5 @@
 -- `unify_step` removes the disagreement.
-use Rattle.meetings.specs.Unifying.{unifyStepped}
+use Rattle.meetings.specs.twins.Unifying.{unifyStepped}
 use borrow.Author.Needs.{needs}
 use Rattle.meetings.proofs.unifier.unify_step.Statement.{statement}
 use Rattle.meetings.proofs.unifier.unify_step.Tie as tie

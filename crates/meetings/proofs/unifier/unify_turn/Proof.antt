@@ -1,5 +1,5 @@
 -- `unify_turn` makes room, and then a step.
-use Rattle.meetings.specs.Unifying.{unifyTurned}
+use Rattle.meetings.specs.twins.Unifying.{unifyTurned}
 use borrow.Author.Needs.{needs}
 use Rattle.meetings.proofs.unifier.unify_turn.Statement.{statement}
 use Rattle.meetings.proofs.unifier.unify_turn.Tie as tie

@@ -1,6 +1,6 @@
 -- The text is printed from what `list_first` answered and left.
 use Rattle.pages.proofs.Shown.{first-bytes, taken-text}
-use Rattle.print.specs.ListedText.{listedText}
+use Rattle.print.specs.twins.ListedText.{listedText}
 use borrow.Author.Needs.{needs}
 use Rattle.pages.proofs.output.list_texts.Statement.{statement}
 use Rattle.pages.proofs.output.list_texts.Tie as tie

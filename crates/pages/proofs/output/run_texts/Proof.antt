@@ -1,6 +1,6 @@
 -- The text is printed from what `run` answered and left.
 use Rattle.pages.proofs.Shown.{taken-text}
-use Rattle.print.specs.RanText.{ranText}
+use Rattle.print.specs.twins.RanText.{ranText}
 use borrow.Author.Needs.{needs}
 use Rattle.pages.proofs.output.run_texts.Statement.{statement}
 use Rattle.pages.proofs.output.run_texts.Tie as tie
@@ -24,7 +24,7 @@ write-run-requires c κs = search needs
 returns : tie.Need-returns
 returns c =
     let a = c .before .before .before .before .before .before .before .before .before .before .before .before .args in
-    let w = c .before .before .before .before .before .before .run .ensures in
+    let w = c .before .before .before .before .before .before .run .ensures .0 in
     taken-text (λ cells answer. ranText (a .program .now) (a .job .now) cells answer) (w .0) (w .2) (c .before .write-run .ensures)
 
 pub run-texts-spec : {M : Type 1} → statement M

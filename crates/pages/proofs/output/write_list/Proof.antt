@@ -3,7 +3,7 @@ use Rattle.pages.proofs.Shown.{not-whole, less-on}
 use Prim.Native.Nat.{_≤_, _-_, _*_, min}
 use mathlib.Core.Path.{_≡_}
 use lib.ListN.{length}
-use Rattle.print.specs.ListedText.{listedText}
+use Rattle.print.specs.twins.ListedText.{listedText}
 use borrow.Author.Needs.{needs}
 use Rattle.pages.proofs.output.write_list.Statement.{statement}
 use Rattle.pages.proofs.output.write_list.Tie as tie

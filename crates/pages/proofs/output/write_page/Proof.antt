@@ -6,7 +6,7 @@ use Rattle.pages.proofs.output.write_page.Tie as tie
 use Rattle.pages.proofs.output.write_page.Reads as reads
 use Rattle.pages.proofs.output.write_page.Lts as lts
 use Rattle.pages.proofs.output.write_bytes.Reads as write-bytes-reads
-use Rattle.pages.proofs.part.part.Reads as part-reads
+use Rattle.cells.proofs.part.part.Reads as part-reads
 
 part-requires : tie.Need-part-requires
 part-requires c κs = search needs

@@ -14,7 +14,7 @@ print-list-requires : tie.Need-print-list-requires
 print-list-requires c κs = search needs
 
 returns : tie.Need-returns
-returns c = page-shown _ _ (search needs) (c .print-list .ensures)
+returns c = page-shown _ _ (search needs) (c .print-list .ensures .0)
 
 pub list-page-spec : {M : Type 1} → statement M
 list-page-spec = tie.close (tie.spec mul-print-list print-list-requires returns)

@@ -14,7 +14,7 @@ print-run-requires : tie.Need-print-run-requires
 print-run-requires c κs = search needs
 
 returns : tie.Need-returns
-returns c = page-shown _ _ (search needs) (c .print-run .ensures)
+returns c = page-shown _ _ (search needs) (c .print-run .ensures .0)
 
 pub run-page-spec : {M : Type 1} → statement M
 run-page-spec = tie.close (tie.spec mul-print-run print-run-requires returns)

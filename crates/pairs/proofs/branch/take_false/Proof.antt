@@ -1,4 +1,4 @@
-use Rattle.pairs.specs.Branching.{falseTaken}
+use Rattle.pairs.specs.twins.Branching.{falseTaken}
 use borrow.Author.Needs.{needs}
 use Rattle.pairs.proofs.branch.take_false.Statement.{statement}
 use Rattle.pairs.proofs.branch.take_false.Tie as tie

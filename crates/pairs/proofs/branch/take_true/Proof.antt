@@ -1,4 +1,4 @@
-use Rattle.pairs.specs.Branching.{trueTaken}
+use Rattle.pairs.specs.twins.Branching.{trueTaken}
 use borrow.Author.Needs.{needs}
 use Rattle.pairs.proofs.branch.take_true.Statement.{statement}
 use Rattle.pairs.proofs.branch.take_true.Tie as tie

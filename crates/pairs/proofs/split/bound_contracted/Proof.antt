@@ -1,4 +1,4 @@
-use Rattle.pairs.specs.Splitting.{boundContracted}
+use Rattle.pairs.specs.twins.Splitting.{boundContracted}
 use borrow.Author.Needs.{needs}
 use Rattle.pairs.proofs.split.bound_contracted.Statement.{statement}
 use Rattle.pairs.proofs.split.bound_contracted.Tie as tie

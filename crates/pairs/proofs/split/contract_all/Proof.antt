@@ -1,4 +1,4 @@
-use Rattle.pairs.specs.Splitting.{contractedAll}
+use Rattle.pairs.specs.twins.Splitting.{contractedAll}
 use borrow.Author.Needs.{needs}
 use Rattle.pairs.proofs.split.contract_all.Statement.{statement}
 use Rattle.pairs.proofs.split.contract_all.Tie as tie

@@ -1,4 +1,4 @@
-use Rattle.pairs.specs.Splitting.{filledOn}
+use Rattle.pairs.specs.twins.Splitting.{filledOn}
 use borrow.Author.Needs.{needs}
 use Rattle.pairs.proofs.split.filled_on.Statement.{statement}
 use Rattle.pairs.proofs.split.filled_on.Tie as tie

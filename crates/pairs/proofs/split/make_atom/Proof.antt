@@ -1,5 +1,5 @@
 use borrow.Author.Tests.{lt-ltb, le-ltb}
-use Rattle.pairs.specs.Splitting.{atomMade}
+use Rattle.pairs.specs.twins.Splitting.{atomMade}
 use borrow.Author.Needs.{needs}
 use Rattle.pairs.proofs.split.make_atom.Statement.{statement}
 use Rattle.pairs.proofs.split.make_atom.Tie as tie

@@ -1,5 +1,5 @@
 use borrow.Author.Tests.{lt-ltb, le-ltb}
-use Rattle.pairs.specs.Splitting.{pairMade}
+use Rattle.pairs.specs.twins.Splitting.{pairMade}
 use borrow.Author.Needs.{needs}
 use Rattle.pairs.proofs.split.make_pair.Statement.{statement}
 use Rattle.pairs.proofs.split.make_pair.Tie as tie

@@ -1,4 +1,4 @@
-use Rattle.pairs.specs.Splitting.{atomSplit}
+use Rattle.pairs.specs.twins.Splitting.{atomSplit}
 use borrow.Author.Needs.{needs}
 use Rattle.pairs.proofs.split.split_atom.Statement.{statement}
 use Rattle.pairs.proofs.split.split_atom.Tie as tie

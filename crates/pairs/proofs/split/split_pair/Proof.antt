@@ -1,4 +1,4 @@
-use Rattle.pairs.specs.Splitting.{pairSplit}
+use Rattle.pairs.specs.twins.Splitting.{pairSplit}
 use borrow.Author.Needs.{needs}
 use Rattle.pairs.proofs.split.split_pair.Statement.{statement}
 use Rattle.pairs.proofs.split.split_pair.Tie as tie

@@ -1,5 +1,5 @@
 use mathlib.Core.Bool.{false}
-use Rattle.reading.specs.BothCells.{bothOver}
+use Rattle.reading.specs.twins.BothCells.{bothOver}
 use Rattle.resolve.proofs.ListMeaning.{list-left}
 use Rattle.print.proofs.ListTurns.{said-read}
 use borrow.Author.Needs.{needs}

@@ -1,3 +1,4 @@
+use Rattle.print.proofs.Printed.{list-promised}
 use borrow.Author.Needs.{needs}
 use Rattle.print.proofs.list.print_list.Statement.{statement}
 use Rattle.print.proofs.list.print_list.Tie as tie
@@ -26,13 +27,13 @@ same-length : tie.Need-same-length
 same-length c = search needs
 
 returns : tie.Need-returns
-returns c = rw (← (c .before .before .before .before .before .before .before .heading-of .ensures), c .before .before .before .before .before .heading .given .1) (c .before .before .print-named .ensures)
+returns c = list-promised _ _ _ _ _ _ (rw (← (c .before .before .before .before .before .before .before .heading-of .ensures), c .before .before .before .before .before .heading .given .1) (c .before .before .print-named .ensures))
 
 same-length-2 : tie.Need-same-length-2
 same-length-2 c = search needs
 
 returns-2 : tie.Need-returns-2
-returns-2 c = rw (← (c .before .before .before .before .before .before .before .heading-of .ensures), c .before .before .before .before .before .heading2 .given .1) (c .before .before .print-refusal .ensures)
+returns-2 c = list-promised _ _ _ _ _ _ (rw (← (c .before .before .before .before .before .before .before .heading-of .ensures), c .before .before .before .before .before .heading2 .given .1) (c .before .before .print-refusal .ensures))
 
 pub print-list-spec : {M : Type 1} → statement M
 print-list-spec =

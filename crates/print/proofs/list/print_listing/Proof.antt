@@ -1,10 +1,10 @@
 use Prim.Native.Nat.{ℕ}
 use mathlib.Core.Path.{ap, ap₂, _∙_}
 use mathlib.Core.List.{List}
-use Rattle.window.specs.Sink.{puts}
-use Rattle.window.specs.TreeText.{symbolText}
-use Rattle.writer.specs.LineText.{linesText}
-use Rattle.print.specs.ListingText.{listingText}
+use Rattle.window.specs.twins.Sink.{puts}
+use Rattle.window.specs.twins.TreeText.{symbolText}
+use Rattle.writer.specs.twins.LineText.{linesText}
+use Rattle.print.specs.twins.ListingText.{listingText}
 use Rattle.window.proofs.SinkLaws.{behind, printed}
 use borrow.Author.Needs.{needs}
 use Rattle.print.proofs.list.print_listing.Statement.{statement}

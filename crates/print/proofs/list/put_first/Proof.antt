@@ -1,16 +1,16 @@
 use Rattle.window.proofs.SinkLaws.{behind}
-use Rattle.print.specs.ListingText.{firstText}
+use Rattle.print.specs.twins.ListingText.{firstText}
 use borrow.Author.Needs.{needs}
 use Rattle.print.proofs.list.put_first.Statement.{statement}
 use Rattle.print.proofs.list.put_first.Tie as tie
 use Rattle.print.proofs.list.put_first.Reads as reads
 use Rattle.print.proofs.list.put_first.Lts as lts
 use Rattle.writer.proofs.line.put_numbers.Reads as put-numbers-reads
-use Rattle.print.proofs.list.put_ending.Reads as put-ending-reads
+use Rattle.print.proofs.list.put_word.Reads as put-word-reads
 use Rattle.window.proofs.sink.put_byte.Reads as put-byte-reads
 
-put-ending-requires : tie.Need-put-ending-requires
-put-ending-requires c κs = search needs
+put-word-requires : tie.Need-put-word-requires
+put-word-requires c κs = search needs
 
 put-numbers-requires : tie.Need-put-numbers-requires
 put-numbers-requires c κs = search needs
@@ -23,9 +23,9 @@ same-length c = search needs
 
 returns : tie.Need-returns
 unfolding firstText
-returns c = behind _ _ _ (behind _ _ _ (c .before .before .before .before .before .before .before .before .before .before .put-ending .ensures) (c .before .before .before .before .before .before .put-numbers .ensures)) (c .before .before .put-byte .ensures)
+returns c = behind _ _ _ (behind _ _ _ (c .before .before .before .before .before .before .before .before .before .before .put-word .ensures) (c .before .before .before .before .before .before .put-numbers .ensures)) (c .before .before .put-byte .ensures)
 
 pub put-first-spec : {M : Type 1} → statement M
 put-first-spec =
     tie.close
-    (tie.spec put-ending-requires put-numbers-requires put-byte-requires same-length returns)
+    (tie.spec put-word-requires put-numbers-requires put-byte-requires same-length returns)

@@ -1,4 +1,4 @@
-use Rattle.print.specs.Names.{foundIn, textNames}
+use Rattle.print.specs.twins.Names.{foundIn, textNames}
 use mathlib.Core.Path.{ap, _∙_}
 use borrow.Author.Needs.{needs}
 use Rattle.print.proofs.names.read_names.Statement.{statement}

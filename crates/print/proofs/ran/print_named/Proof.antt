@@ -1,4 +1,4 @@
-use Rattle.print.specs.RanText.{namedText}
+use Rattle.print.specs.twins.RanText.{namedText}
 use borrow.Author.Needs.{needs}
 use Rattle.print.proofs.ran.print_named.Statement.{statement}
 use Rattle.print.proofs.ran.print_named.Tie as tie

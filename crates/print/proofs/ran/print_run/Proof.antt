@@ -1,3 +1,4 @@
+use Rattle.print.proofs.Printed.{run-promised}
 use borrow.Author.Needs.{needs}
 use Rattle.print.proofs.ran.print_run.Statement.{statement}
 use Rattle.print.proofs.ran.print_run.Tie as tie
@@ -46,37 +47,37 @@ same-length : tie.Need-same-length
 same-length c = search needs
 
 returns : tie.Need-returns
-returns c = rw (c .before .before .before .before .before .answer .given .1) (c .before .before .print-named .ensures)
+returns c = run-promised _ _ _ _ _ _ (rw (c .before .before .before .before .before .answer .given .1) (c .before .before .print-named .ensures))
 
 same-length-2 : tie.Need-same-length-2
 same-length-2 c = search needs
 
 returns-2 : tie.Need-returns-2
-returns-2 c = rw (c .before .before .before .before .enum-told .given .1) (c .before .before .print-named2 .ensures)
+returns-2 c = run-promised _ _ _ _ _ _ (rw (c .before .before .before .before .enum-told .given .1) (c .before .before .print-named2 .ensures))
 
 same-length-3 : tie.Need-same-length-3
 same-length-3 c = search needs
 
 returns-3 : tie.Need-returns-3
-returns-3 c = rw (c .before .before .before .before .enum-told2 .given .1) (c .before .before .print-named3 .ensures)
+returns-3 c = run-promised _ _ _ _ _ _ (rw (c .before .before .before .before .enum-told2 .given .1) (c .before .before .print-named3 .ensures))
 
 same-length-4 : tie.Need-same-length-4
 same-length-4 c = search needs
 
 returns-4 : tie.Need-returns-4
-returns-4 c = rw (c .before .before .before .before .before .answer2 .given .1) (c .before .before .print-refusal .ensures)
+returns-4 c = run-promised _ _ _ _ _ _ (rw (c .before .before .before .before .before .answer2 .given .1) (c .before .before .print-refusal .ensures))
 
 same-length-5 : tie.Need-same-length-5
 same-length-5 c = search needs
 
 returns-5 : tie.Need-returns-5
-returns-5 c = rw (c .before .before .before .before .before .answer3 .given .1) (c .before .before .print-refusal2 .ensures)
+returns-5 c = run-promised _ _ _ _ _ _ (rw (c .before .before .before .before .before .answer3 .given .1) (c .before .before .print-refusal2 .ensures))
 
 same-length-6 : tie.Need-same-length-6
 same-length-6 c = search needs
 
 returns-6 : tie.Need-returns-6
-returns-6 c = rw (c .before .before .before .before .enum-told3 .given .1) (c .before .before .print-refusal3 .ensures)
+returns-6 c = run-promised _ _ _ _ _ _ (rw (c .before .before .before .before .enum-told3 .given .1) (c .before .before .print-refusal3 .ensures))
 
 pub print-run-spec : {M : Type 1} → statement M
 print-run-spec =

@@ -1,6 +1,6 @@
 use mathlib.Core.Path.{_≡_}
 use Prim.Native.Nat.{_-_}
-use Rattle.checker.specs.CheckStored.{bodiesAt}
+use Rattle.checker.specs.twins.CheckStored.{bodiesAt}
 use Rattle.checker.proofs.CheckOpenings.{whole-count, bodies-more, bodies-none}
 use borrow.Author.Needs.{needs}
 use Rattle.programs.proofs.check_program.bodies.Statement.{statement}

@@ -1,4 +1,4 @@
-use Rattle.checker.specs.CheckAt.{programAt}
+use Rattle.checker.specs.twins.CheckAt.{programAt}
 use borrow.Author.Needs.{needs}
 use Rattle.programs.proofs.check_program.check_program.Statement.{statement}
 use Rattle.programs.proofs.check_program.check_program.Tie as tie

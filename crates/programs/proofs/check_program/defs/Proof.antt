@@ -1,6 +1,6 @@
 use mathlib.Core.Path.{_≡_}
 use borrow.Author.Tests.{eq-eqb, ne-eqb}
-use Rattle.checker.specs.CheckStored.{defsAt}
+use Rattle.checker.specs.twins.CheckStored.{defsAt}
 use Rattle.checker.proofs.CheckOpenings.{not-zero, is-zero, defs-more, defs-none}
 use borrow.Author.Needs.{needs}
 use Rattle.programs.proofs.check_program.defs.Statement.{statement}

@@ -2,9 +2,9 @@ use mathlib.Core.Path.{_≡_, refl, ap, _∙_, sym}
 use Prim.Native.Nat.{_-_}
 use lib.Dec.{eqb}
 use borrow.Author.Tests.{eq-eqb, ne-eqb}
-use Rattle.checker.specs.StoredAt.{keyAt}
-use Rattle.checker.specs.CheckStored.{paramsAt}
-use Rattle.checker.specs.CheckAt.{noNames, names}
+use Rattle.checker.specs.twins.StoredAt.{keyAt}
+use Rattle.checker.specs.twins.CheckStored.{paramsAt}
+use Rattle.checker.specs.twins.CheckAt.{noNames, names}
 use Rattle.checker.proofs.CheckOpenings.{not-zero, is-zero, params-more, params-none, params-put}
 use borrow.Author.Needs.{needs}
 use Rattle.programs.proofs.check_program.params.Statement.{statement}
@@ -17,7 +17,7 @@ use Rattle.checker.proofs.places.key.Reads as key-reads
 
 abbrev Inv-loop : tie.InvT-loop
 Inv-loop marks n room i cells₀ used₀ left₀ at₀ cells used left at =
-    paramsAt marks marks marks n room noNames i ≡ paramsAt marks marks marks n left (names cells used) at
+    paramsAt marks n room noNames i ≡ paramsAt marks n left (names cells used) at
 
 abbrev μ-loop : tie.MeasureT-loop
 μ-loop marks n room i cells₀ used₀ left₀ at₀ cells used left at = left
@@ -49,7 +49,7 @@ loop-again c =
     let a = c .before .before .before .before .before .before .before .before .args in
     let k = keyAt (a .marks .now) (a .n) in
     let e = sym (ap (λ v. eqb v 4) (c .before .before .before .before .key .ensures)) ∙ ne-eqb _ _ (c .before .before .before .if1 .left) in
-    l .inv ∙ params-put (not-zero _ (c .before .before .before .before .before .loop-test .taken)) k (a .n) (l .cells) _ (l .used) _ (l .at) e (c .before .put .ensures) ∙ ap (paramsAt (a .marks .now) (a .marks .now) (a .marks .now) (a .n) (l .left - 1) _) (sym (c .ahead .ensures))
+    l .inv ∙ params-put (not-zero _ (c .before .before .before .before .before .loop-test .taken)) k (a .n) (l .cells) _ (l .used) _ (l .at) e (c .before .put .ensures) ∙ ap (paramsAt (a .marks .now) (a .n) (l .left - 1) _) (sym (c .ahead .ensures))
 
 returns-2 : tie.Need-returns-2 Inv-loop μ-loop
 returns-2 c = rw (c .before .loop .inv, params-none (is-zero _ (c .loop-test .left)))

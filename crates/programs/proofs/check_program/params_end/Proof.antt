@@ -1,6 +1,6 @@
 use mathlib.Core.Path.{_≡_}
 use borrow.Author.Tests.{eq-eqb, ne-eqb}
-use Rattle.checker.specs.CheckStored.{paramsEnd}
+use Rattle.checker.specs.twins.CheckStored.{paramsEnd}
 use Rattle.checker.proofs.CheckOpenings.{not-zero, is-zero, end-more, end-none}
 use borrow.Author.Needs.{needs}
 use Rattle.programs.proofs.check_program.params_end.Statement.{statement}
@@ -12,7 +12,7 @@ use Rattle.checker.proofs.places.key.Reads as key-reads
 
 abbrev Inv-loop : tie.InvT-loop
 Inv-loop marks n room i left₀ at₀ left at =
-    paramsEnd marks marks marks n room i ≡ paramsEnd marks marks marks n left at
+    paramsEnd marks n room i ≡ paramsEnd marks n left at
 
 abbrev μ-loop : tie.MeasureT-loop
 μ-loop marks n room i left₀ at₀ left at = left

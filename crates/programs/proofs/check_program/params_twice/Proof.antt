@@ -3,9 +3,9 @@ use Prim.Native.Nat.{ℕ, _-_}
 use lib.Dec.{eqb}
 use lib.ListN.{length, length-replicate}
 use borrow.Author.Tests.{eq-eqb, ne-eqb}
-use Rattle.checker.specs.StoredAt.{keyAt, tagAt, numAt, atAt}
-use Rattle.checker.specs.CheckStored.{paramsTwice}
-use Rattle.checker.specs.CheckAt.{noNames, names}
+use Rattle.checker.specs.twins.StoredAt.{keyAt, tagAt, numAt, atAt}
+use Rattle.checker.specs.twins.CheckStored.{paramsTwice}
+use Rattle.checker.specs.twins.CheckAt.{noNames, names}
 use Rattle.checker.proofs.CheckOpenings.{not-zero, is-zero, twice-more, twice-none, twice-put}
 use Rattle.checker.proofs.ReachLaws.{put-kept}
 use borrow.Author.Needs.{needs}

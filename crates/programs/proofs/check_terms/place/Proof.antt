@@ -1,7 +1,7 @@
 use mathlib.Core.Path.{_≡_}
 use Prim.Native.Nat.{_-_}
 use borrow.Author.Tests.{eq-eqb, ne-eqb}
-use Rattle.checker.specs.CheckStored.{placeAt}
+use Rattle.checker.specs.twins.CheckStored.{placeAt}
 use Rattle.checker.proofs.CheckOpenings.{place-more, place-none}
 use borrow.Author.Needs.{needs}
 use Rattle.programs.proofs.check_terms.place.Statement.{statement}
@@ -13,7 +13,7 @@ use Rattle.checker.proofs.places.num.Reads as num-reads
 
 abbrev Inv-loop : tie.InvT-loop
 Inv-loop nums n heads count j x at₀ at =
-    placeAt nums nums nums n heads (count - j) j x ≡ placeAt nums nums nums n heads (count - at) at x
+    placeAt nums n heads (count - j) j x ≡ placeAt nums n heads (count - at) at x
 
 abbrev μ-loop : tie.MeasureT-loop
 μ-loop nums n heads count j x at₀ at = count - at

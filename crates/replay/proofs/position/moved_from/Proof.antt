@@ -3,7 +3,7 @@ use Rattle.replay.proofs.position.moved_from.Statement.{statement}
 use Rattle.replay.proofs.position.moved_from.Tie as tie
 use Rattle.replay.proofs.position.moved_from.Reads as reads
 use Rattle.replay.proofs.position.moved_from.Lts as lts
-use Rattle.sets.proofs.cell.least.Reads as least-reads
+use Rattle.cells.proofs.cell.least.Reads as least-reads
 
 least-requires : tie.Need-least-requires
 least-requires c κs = search needs

@@ -1,4 +1,4 @@
-use Rattle.replay.specs.Replaying.{broughtBack}
+use Rattle.replay.specs.twins.Replaying.{broughtBack}
 use borrow.Author.Needs.{needs}
 use Rattle.replay.proofs.replay.bring_back.Statement.{statement}
 use Rattle.replay.proofs.replay.bring_back.Tie as tie

@@ -1,5 +1,5 @@
 use mathlib.Core.Path.{_≡_}
-use Rattle.replay.specs.Replaying.{followFrom}
+use Rattle.replay.specs.twins.Replaying.{followFrom}
 use Rattle.replay.proofs.FollowTurns.{follow-turn, follow-end}
 use borrow.Author.Needs.{needs}
 use Rattle.replay.proofs.replay.follow.Statement.{statement}

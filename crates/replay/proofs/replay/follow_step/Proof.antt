@@ -1,4 +1,4 @@
-use Rattle.replay.specs.Replaying.{followStep}
+use Rattle.replay.specs.twins.Replaying.{followStep}
 use borrow.Author.Needs.{needs}
 use Rattle.replay.proofs.replay.follow_step.Statement.{statement}
 use Rattle.replay.proofs.replay.follow_step.Tie as tie

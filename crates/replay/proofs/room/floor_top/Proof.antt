@@ -1,4 +1,4 @@
-use Rattle.replay.specs.Rooms.{floorTop}
+use Rattle.replay.specs.twins.Rooms.{floorTop}
 use borrow.Author.Needs.{needs}
 use Rattle.replay.proofs.room.floor_top.Statement.{statement}
 use Rattle.replay.proofs.room.floor_top.Tie as tie

@@ -1,5 +1,5 @@
 -- `have_room` does what `make_room` does, which does nothing where there is room.
-use Rattle.replay.specs.Rooms.{madeRoom}
+use Rattle.replay.specs.twins.Rooms.{madeRoom}
 use borrow.Author.Needs.{needs}
 use Rattle.replay.proofs.room.have_room.Statement.{statement}
 use Rattle.replay.proofs.room.have_room.Tie as tie

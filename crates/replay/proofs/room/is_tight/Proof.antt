@@ -4,7 +4,7 @@ use Rattle.replay.proofs.room.is_tight.Tie as tie
 use Rattle.replay.proofs.room.is_tight.Reads as reads
 use Rattle.replay.proofs.room.is_tight.Lts as lts
 use Rattle.replay.proofs.room.is_full.Reads as is-full-reads
-use Rattle.sets.proofs.cell.least.Reads as least-reads
+use Rattle.cells.proofs.cell.least.Reads as least-reads
 
 is-full-requires : tie.Need-is-full-requires
 is-full-requires c κs = search needs

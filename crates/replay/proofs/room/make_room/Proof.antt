@@ -1,4 +1,4 @@
-use Rattle.replay.specs.Rooms.{madeRoom}
+use Rattle.replay.specs.twins.Rooms.{madeRoom}
 use borrow.Author.Needs.{needs}
 use Rattle.replay.proofs.room.make_room.Statement.{statement}
 use Rattle.replay.proofs.room.make_room.Tie as tie

@@ -1,4 +1,4 @@
-use Rattle.resolve.specs.ListCells.{listedRead}
+use Rattle.resolve.specs.twins.ListCells.{listedRead}
 use Rattle.resolve.proofs.ListMeaning.{walked-behind}
 use mathlib.Core.Path.{refl}
 use borrow.Author.Needs.{needs}

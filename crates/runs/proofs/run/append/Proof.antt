@@ -4,9 +4,9 @@ use Prim.Native.Nat.{_+_, _-_, _≤_, min}
 use mathlib.Core.Path.{_≡_, refl, ap, ap₂, _∙_, sym as inv}
 use native.Mathlib.Omega.{arith}
 use lib.Seq.{sets}
-use Rattle.sets.specs.Fill.{fillAnswer}
+use Rattle.sets.specs.twins.Fill.{fillAnswer}
 use Rattle.sets.specs.declared.fill.Filled.the-variants.{Done}
-use Rattle.runs.specs.Runs.{run}
+use Rattle.runs.specs.twins.Runs.{run}
 use Rattle.runs.proofs.RunLaws.{Below, below-self, below-set, run-end, written-over, written-done, append-start, append-turn}
 use borrow.Author.Needs.{needs}
 use Rattle.runs.proofs.run.append.Statement.{statement}

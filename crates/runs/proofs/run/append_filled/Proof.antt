@@ -4,9 +4,9 @@ use mathlib.Core.Path.{_≡_, ap, _∙_, sym as inv}
 use mathlib.Core.List.{List}
 use native.Mathlib.Omega.{arith}
 use lib.Seq.{sets}
-use Rattle.sets.specs.Fill.{fillAnswer, spread}
+use Rattle.sets.specs.twins.Fill.{fillAnswer, spread}
 use Rattle.sets.specs.declared.fill.Filled.the-variants.{Done}
-use Rattle.runs.specs.Runs.{run}
+use Rattle.runs.specs.twins.Runs.{run}
 use Rattle.runs.proofs.RunLaws.{filled-over, filled-done, size-ones, value-size, value-run, value-one, clipped}
 use borrow.Author.Needs.{needs}
 use Rattle.runs.proofs.run.append_filled.Statement.{statement}

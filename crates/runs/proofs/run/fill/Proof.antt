@@ -2,8 +2,8 @@
 use Prim.Native.Nat.{_-_}
 use mathlib.Core.Path.{refl, ap}
 use native.Mathlib.Omega.{arith}
-use Rattle.sets.specs.Fill.{FillAnswer}
-use Rattle.runs.specs.Runs.{run, spreadSize}
+use Rattle.sets.specs.twins.Fill.{FillAnswer}
+use Rattle.runs.specs.twins.Runs.{run, spreadSize}
 use Rattle.runs.proofs.RunLaws.{below-self, Filling, filling-end, filling-fits, filling-tree, first-at, first-fits, filling-run, first-is}
 use borrow.Author.Needs.{needs}
 use Rattle.runs.proofs.run.fill.Statement.{statement}

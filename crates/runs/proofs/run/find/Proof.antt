@@ -2,7 +2,7 @@
 use Prim.Native.Nat.{_-_}
 use mathlib.Core.Path.{_≡_, refl, _∙_, sym as inv}
 use native.Mathlib.Omega.{arith}
-use Rattle.runs.specs.Runs.{firstIn}
+use Rattle.runs.specs.twins.Runs.{firstIn}
 use Rattle.runs.proofs.RunLaws.{passes, first-here, first-later, first-none}
 use borrow.Author.Needs.{needs}
 use Rattle.runs.proofs.run.find.Statement.{statement}

@@ -5,7 +5,7 @@ use mathlib.Core.Bool.{Bool}
 use native.Mathlib.Omega.{arith}
 use lib.ListN.{getD}
 use Rattle.runs.specs.declared.run.Seen.{Seen}
-use Rattle.runs.specs.Runs.{run, countIn, anyVariable}
+use Rattle.runs.specs.twins.Runs.{run, countIn, anyVariable}
 use Rattle.runs.proofs.RunLaws.{metOr, count-next, count-end, one-least, variable-next, variable-done}
 use borrow.Author.Needs.{needs}
 use Rattle.runs.proofs.run.look_through.Statement.{statement}

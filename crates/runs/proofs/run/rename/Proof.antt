@@ -4,8 +4,8 @@ use mathlib.Core.Path.{_≡_, refl, _∙_, sym as inv}
 use mathlib.Core.List.{_∷_, []}
 use native.Mathlib.Omega.{arith}
 use lib.Seq.{sets}
-use Rattle.sets.specs.Fill.{spread}
-use Rattle.runs.specs.Runs.{run}
+use Rattle.sets.specs.twins.Fill.{spread}
+use Rattle.runs.specs.twins.Runs.{run}
 use Rattle.runs.proofs.RunLaws.{Below, below-self, below-set, run-end, rename-start, rename-turn}
 use borrow.Author.Needs.{needs}
 use Rattle.runs.proofs.run.rename.Statement.{statement}

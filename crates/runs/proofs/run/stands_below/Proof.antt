@@ -2,8 +2,8 @@
 use Prim.Native.Nat.{ℕ, _+_, _-_}
 use mathlib.Core.Path.{_≡_, refl, _∙_, ap, sym as inv}
 use native.Mathlib.Omega.{arith}
-use Rattle.sets.specs.Cells.{anyCell}
-use Rattle.runs.specs.Runs.{run, standsInRun}
+use Rattle.sets.specs.twins.Copying.{anyCell}
+use Rattle.runs.specs.twins.Runs.{run, standsInRun}
 use Rattle.runs.proofs.RunLaws.{metOr, stands-next, stands-done}
 use borrow.Author.Needs.{needs}
 use Rattle.runs.proofs.run.stands_below.Statement.{statement}

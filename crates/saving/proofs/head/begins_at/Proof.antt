@@ -1,5 +1,5 @@
 -- `begins_at` goes down from the head by the cells of its entries and non-equalities.
-use Rattle.saving.specs.Heads.{beginsAt}
+use Rattle.saving.specs.twins.Heads.{beginsAt}
 use borrow.Author.Needs.{needs}
 use Rattle.saving.proofs.head.begins_at.Statement.{statement}
 use Rattle.saving.proofs.head.begins_at.Tie as tie

@@ -1,5 +1,5 @@
 -- `read_head` reads the nine numbers of a head.
-use Rattle.saving.specs.Heads.{nodeAt}
+use Rattle.saving.specs.twins.Heads.{nodeAt}
 use borrow.Author.Needs.{needs}
 use Rattle.saving.proofs.head.read_head.Statement.{statement}
 use Rattle.saving.proofs.head.read_head.Tie as tie

@@ -1,6 +1,6 @@
 -- `allowed` goes by the choices between two records.
 use borrow.Author.Tests.{lt-ltb, le-ltb}
-use Rattle.saving.specs.Saving.{allowedAt}
+use Rattle.saving.specs.twins.Saving.{allowedAt}
 use borrow.Author.Needs.{needs}
 use Rattle.saving.proofs.saved.allowed.Statement.{statement}
 use Rattle.saving.proofs.saved.allowed.Tie as tie

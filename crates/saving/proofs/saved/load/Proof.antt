@@ -1,5 +1,5 @@
 -- `load` copies the entries and the non-equalities to the fronts of frame and q.
-use Rattle.saving.specs.Saving.{loaded}
+use Rattle.saving.specs.twins.Saving.{loaded}
 use borrow.Author.Needs.{needs}
 use Rattle.saving.proofs.saved.load.Statement.{statement}
 use Rattle.saving.proofs.saved.load.Tie as tie

@@ -1,7 +1,7 @@
 -- `older` takes one record after the other off the top.
 use mathlib.Core.Path.{_≡_, refl, _∙_, sym as inv}
 use native.Mathlib.Omega.{arith}
-use Rattle.saving.specs.Saving.{olderTop}
+use Rattle.saving.specs.twins.Saving.{olderTop}
 use Rattle.saving.proofs.OlderTurns.{begins-below, older-end, older-here, older-turn}
 use borrow.Author.Needs.{needs}
 use Rattle.saving.proofs.saved.older.Statement.{statement}

@@ -1,6 +1,6 @@
 -- `save` stores the record where it has room.
 use borrow.Author.Tests.{le-leb, lt-leb}
-use Rattle.saving.specs.Saving.{savedTo}
+use Rattle.saving.specs.twins.Saving.{savedTo}
 use borrow.Author.Needs.{needs}
 use Rattle.saving.proofs.saved.save.Statement.{statement}
 use Rattle.saving.proofs.saved.save.Tie as tie

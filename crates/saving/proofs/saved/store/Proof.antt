@@ -1,5 +1,5 @@
 -- `store` copies the entries, then the non-equalities, then the numbers behind them.
-use Rattle.saving.specs.Saving.{stored}
+use Rattle.saving.specs.twins.Saving.{stored}
 use borrow.Author.Needs.{needs}
 use Rattle.saving.proofs.saved.store.Statement.{statement}
 use Rattle.saving.proofs.saved.store.Tie as tie

@@ -8,7 +8,7 @@ use lib.ListN.{length, getD, length-set}
 use lib.Dec.{eqb}
 use mathlib.Core.Bool.{cond}
 use borrow.Author.Tests.{eq-eqb, ne-eqb}
-use Rattle.sets.specs.Fill.{renamed}
+use Rattle.sets.specs.twins.Fill.{renamed}
 use Rattle.sets.proofs.Turns.{renamed-none, renamed-at, renamed-next, renamed-min}
 use borrow.Author.Needs.{needs}
 use Rattle.sets.proofs.fill.rename.Statement.{statement}

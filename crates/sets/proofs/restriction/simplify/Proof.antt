@@ -4,7 +4,7 @@ use mathlib.Core.Path.{_≡_, refl, _∙_}
 use mathlib.Core.Logic.{⊎-elim}
 use native.Mathlib.Omega.{arith}
 use lib.ListN.{length, length-set}
-use Rattle.sets.specs.Restricting.{simplifyFrom, simplifyCells}
+use Rattle.sets.specs.twins.Restricting.{simplifyFrom, simplifyCells}
 use Rattle.sets.proofs.RestrictionTurns.{simplify-turn, simplify-end}
 use borrow.Author.Needs.{needs}
 use Rattle.sets.proofs.restriction.simplify.Statement.{statement}

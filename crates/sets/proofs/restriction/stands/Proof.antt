@@ -4,7 +4,7 @@ use mathlib.Core.Path.{_≡_}
 use mathlib.Core.Logic.{⊎-elim}
 use native.Mathlib.Omega.{arith}
 use lib.ListN.{length, drop, getD}
-use Rattle.sets.specs.Restricting.{standsCells}
+use Rattle.sets.specs.twins.Restricting.{standsCells}
 use Rattle.sets.proofs.RestrictionTurns.{either-written, either-turned, either-none, stands-turn, stands-end}
 use borrow.Author.Needs.{needs}
 use Rattle.sets.proofs.restriction.stands.Statement.{statement}

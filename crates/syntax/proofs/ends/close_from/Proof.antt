@@ -2,8 +2,8 @@
 use mathlib.Core.Path.{_≡_, refl, sym, _∙_}
 use Prim.Native.Nat.{_-_, _≤_}
 use native.Mathlib.Omega.{arith}
-use Rattle.checker.specs.StoredAt.{keyAt}
-use Rattle.syntax.specs.Ends.{closeFrom}
+use Rattle.checker.specs.twins.StoredAt.{keyAt}
+use Rattle.syntax.specs.twins.Ends.{closeFrom}
 use Rattle.syntax.proofs.PartOpenings.{close-end, close-deeper, close-word, close-last, close-higher}
 use borrow.Author.Needs.{needs}
 use Rattle.syntax.proofs.ends.close_from.Statement.{statement}

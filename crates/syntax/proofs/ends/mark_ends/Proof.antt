@@ -4,17 +4,17 @@ use Prim.Native.Nat.{_+_, _-_}
 use native.Mathlib.Nat.{sub-zero}
 use native.Mathlib.Omega.{arith}
 use lib.ListN.{length, set, length-set}
-use Rattle.lexer.specs.Marks.{cellOf}
-use Rattle.checker.specs.StoredAt.{keyAt}
-use Rattle.syntax.specs.Ends.{endsFrom}
+use Rattle.words.specs.twins.Marks.{cellOf}
+use Rattle.checker.specs.twins.StoredAt.{keyAt}
+use Rattle.syntax.specs.twins.Ends.{endsFrom}
 use Rattle.syntax.proofs.PartOpenings.{ends-none, ends-more}
 use borrow.Author.Needs.{needs}
 use Rattle.syntax.proofs.ends.mark_ends.Statement.{statement}
 use Rattle.syntax.proofs.ends.mark_ends.Tie as tie
 use Rattle.syntax.proofs.ends.mark_ends.Reads as reads
 use Rattle.syntax.proofs.ends.mark_ends.Lts as lts
-use Rattle.lexer.proofs.cells.put.Reads as put-reads
-use Rattle.syntax.proofs.ends.narrow.Reads as narrow-reads
+use Rattle.cells.proofs.cell.put.Reads as put-reads
+use Rattle.cells.proofs.cell.low.Reads as low-reads
 use Rattle.syntax.proofs.ends.past.Reads as past-reads
 
 abbrev Inv-loop : tie.InvT-loop
@@ -29,8 +29,8 @@ loop-holds c = (rw sub-zero, refl)
 past-requires : tie.Need-past-requires Inv-loop μ-loop
 past-requires c κs = search needs
 
-narrow-requires : tie.Need-narrow-requires Inv-loop μ-loop
-narrow-requires c κs = search needs
+low-requires : tie.Need-low-requires Inv-loop μ-loop
+low-requires c κs = search needs
 
 put-requires : tie.Need-put-requires Inv-loop μ-loop
 put-requires c κs = search needs
@@ -44,7 +44,7 @@ loop-less c = search needs
 loop-again : tie.Need-loop-again Inv-loop μ-loop
 loop-again c =
     let k = keyAt (c .before .before .before .before .before .before .before .before .before .before .args .marks .now) (c .before .before .before .before .before .before .before .before .before .before .args .n) in
-    let e = c .before .before .put .ensures ∙ ap (set (c .before .before .before .before .before .before .before .loop .ends) (c .before .before .before .before .before .before .before .loop .i)) (c .before .before .before .narrow .ensures ∙ ap cellOf (c .before .before .before .before .past .ensures)) in
+    let e = c .before .before .put .ensures ∙ ap (set (c .before .before .before .before .before .before .before .loop .ends) (c .before .before .before .before .before .before .before .loop .i)) (c .before .before .before .low .ensures ∙ ap cellOf (c .before .before .before .before .past .ensures)) in
     (c .before .before .before .before .before .before .before .loop .inv .0 ∙ ends-more (c .before .before .before .before .before .before .loop-test .taken) k (c .before .before .before .before .before .before .before .before .before .before .args .n) (c .before .before .before .before .before .before .before .loop .ends) ∙ ap (endsFrom k (c .before .before .before .before .before .before .before .before .before .before .args .n) (c .before .before .before .before .before .before .before .before .before .before .args .n - (c .before .before .before .before .before .before .before .loop .i + 1)) (c .before .before .before .before .before .before .before .loop .i + 1)) (sym e), ap length e ∙ length-set (c .before .before .before .before .before .before .before .loop .ends) (c .before .before .before .before .before .before .before .loop .i) _ ∙ c .before .before .before .before .before .before .before .loop .inv .1)
 
 same-length : tie.Need-same-length Inv-loop μ-loop
@@ -61,7 +61,7 @@ mark-ends-spec =
     μ-loop
     loop-holds
     past-requires
-    narrow-requires
+    low-requires
     put-requires
     add-i
     loop-less

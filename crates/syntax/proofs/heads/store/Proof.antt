@@ -3,17 +3,17 @@ use mathlib.Core.Path.{_≡_, refl, ap, sym, _∙_}
 use Prim.Native.Nat.{_+_, _-_}
 use native.Mathlib.Nat.{sub-zero}
 use lib.ListN.{length, set, length-set}
-use Rattle.lexer.specs.Marks.{cellOf}
-use Rattle.syntax.specs.Heads.{headsFrom}
+use Rattle.words.specs.twins.Marks.{cellOf}
+use Rattle.syntax.specs.twins.Heads.{headsFrom}
 use Rattle.syntax.proofs.PartOpenings.{heads-none, heads-more}
 use borrow.Author.Needs.{needs}
 use Rattle.syntax.proofs.heads.store.Statement.{statement}
 use Rattle.syntax.proofs.heads.store.Tie as tie
 use Rattle.syntax.proofs.heads.store.Reads as reads
 use Rattle.syntax.proofs.heads.store.Lts as lts
-use Rattle.lexer.proofs.cells.put.Reads as put-reads
+use Rattle.cells.proofs.cell.put.Reads as put-reads
 use Rattle.checker.proofs.check.index.Reads as index-reads
-use Rattle.syntax.proofs.ends.narrow.Reads as narrow-reads
+use Rattle.cells.proofs.cell.low.Reads as low-reads
 
 abbrev Inv-loop : tie.InvT-loop
 Inv-loop from count heads₀ j₀ heads j = (headsFrom from count 0 heads₀ ≡ headsFrom from (count - j) j heads) × (length heads ≡ length heads₀)
@@ -27,8 +27,8 @@ loop-holds c = (rw sub-zero, refl)
 index-requires : tie.Need-index-requires Inv-loop μ-loop
 index-requires c κs = search needs
 
-narrow-requires : tie.Need-narrow-requires Inv-loop μ-loop
-narrow-requires c κs = search needs
+low-requires : tie.Need-low-requires Inv-loop μ-loop
+low-requires c κs = search needs
 
 put-requires : tie.Need-put-requires Inv-loop μ-loop
 put-requires c κs = search needs
@@ -41,7 +41,7 @@ loop-less c = search needs
 
 loop-again : tie.Need-loop-again Inv-loop μ-loop
 loop-again c =
-    let e = c .before .before .put .ensures ∙ ap (set (c .before .before .before .before .before .before .before .loop .heads) (c .before .before .before .before .before .before .before .loop .j)) (c .before .before .before .narrow .ensures ∙ ap cellOf (c .before .before .before .before .index .ensures)) in
+    let e = c .before .before .put .ensures ∙ ap (set (c .before .before .before .before .before .before .before .loop .heads) (c .before .before .before .before .before .before .before .loop .j)) (c .before .before .before .low .ensures ∙ ap cellOf (c .before .before .before .before .index .ensures)) in
     (c .before .before .before .before .before .before .before .loop .inv .0 ∙ heads-more (c .before .before .before .before .before .before .loop-test .taken) (c .before .before .before .before .before .before .before .before .before .before .args .from .now) (c .before .before .before .before .before .before .before .loop .heads) ∙ ap (headsFrom (c .before .before .before .before .before .before .before .before .before .before .args .from .now) (c .before .before .before .before .before .before .before .before .before .before .args .count - (c .before .before .before .before .before .before .before .loop .j + 1)) (c .before .before .before .before .before .before .before .loop .j + 1)) (sym e), ap length e ∙ length-set (c .before .before .before .before .before .before .before .loop .heads) (c .before .before .before .before .before .before .before .loop .j) _ ∙ c .before .before .before .before .before .before .before .loop .inv .1)
 
 same-length : tie.Need-same-length Inv-loop μ-loop
@@ -58,7 +58,7 @@ store-spec =
     μ-loop
     loop-holds
     index-requires
-    narrow-requires
+    low-requires
     put-requires
     add-j
     loop-less

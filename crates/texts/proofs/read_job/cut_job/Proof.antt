@@ -1,5 +1,5 @@
 use mathlib.Core.Path.{refl}
-use Rattle.syntax.specs.ReadAnswer.{jobJudged}
+use Rattle.syntax.specs.twins.ReadAnswer.{jobJudged}
 use Rattle.texts.proofs.ReadLaws.{cut-refused, cut-accepted}
 use borrow.Author.Needs.{needs}
 use Rattle.texts.proofs.read_job.cut_job.Statement.{statement}

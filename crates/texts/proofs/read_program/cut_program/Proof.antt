@@ -1,5 +1,5 @@
 use mathlib.Core.Path.{refl}
-use Rattle.syntax.specs.ReadAnswer.{programJudged}
+use Rattle.syntax.specs.twins.ReadAnswer.{programJudged}
 use Rattle.texts.proofs.ReadLaws.{cut-refused, cut-accepted}
 use borrow.Author.Needs.{needs}
 use Rattle.texts.proofs.read_program.cut_program.Statement.{statement}

@@ -1,4 +1,4 @@
-use Rattle.tracing.specs.Asking.{askedAt}
+use Rattle.tracing.specs.twins.Asking.{askedAt}
 use borrow.Author.Tests.{eq-eqb, ne-eqb}
 use borrow.Author.Needs.{needs}
 use Rattle.tracing.proofs.ask.ask.Statement.{statement}

@@ -1,11 +1,11 @@
 use borrow.Author.Tests.{eq-eqb, ne-eqb}
-use Rattle.trails.specs.TrailCells.{backtracked}
+use Rattle.trails.specs.twins.TrailCells.{backtracked}
 use borrow.Author.Needs.{needs}
 use Rattle.trails.proofs.trail.backtrack.Statement.{statement}
 use Rattle.trails.proofs.trail.backtrack.Tie as tie
 use Rattle.trails.proofs.trail.backtrack.Reads as reads
 use Rattle.trails.proofs.trail.backtrack.Lts as lts
-use Rattle.sets.proofs.cell.put.Reads as put-reads
+use Rattle.cells.proofs.cell.put.Reads as put-reads
 use Rattle.trails.proofs.trail.choice_cell.Reads as choice-cell-reads
 use Rattle.trails.proofs.trail.latest_pending.Reads as latest-pending-reads
 

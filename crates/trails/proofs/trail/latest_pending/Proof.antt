@@ -1,7 +1,7 @@
 use Prim.Native.Nat.{_-_}
 use mathlib.Core.Path.{_≡_, refl, _∙_, sym}
 use native.Mathlib.Omega.{arith}
-use Rattle.trails.specs.TrailCells.{latestPending}
+use Rattle.trails.specs.twins.TrailCells.{latestPending}
 use Rattle.trails.proofs.TrailLaws.{pending-here, pending-later}
 use borrow.Author.Needs.{needs}
 use Rattle.trails.proofs.trail.latest_pending.Statement.{statement}

@@ -3,8 +3,8 @@ use Rattle.trails.proofs.trail.push_choice.Statement.{statement}
 use Rattle.trails.proofs.trail.push_choice.Tie as tie
 use Rattle.trails.proofs.trail.push_choice.Reads as reads
 use Rattle.trails.proofs.trail.push_choice.Lts as lts
-use Rattle.sets.proofs.cell.least.Reads as least-reads
-use Rattle.sets.proofs.cell.put.Reads as put-reads
+use Rattle.cells.proofs.cell.least.Reads as least-reads
+use Rattle.cells.proofs.cell.put.Reads as put-reads
 use Rattle.trails.proofs.trail.choice_cell.Reads as choice-cell-reads
 
 choice-cell-requires : tie.Need-choice-cell-requires

@@ -3,7 +3,7 @@ use Rattle.turns.proofs.found.count.Statement.{statement}
 use Rattle.turns.proofs.found.count.Tie as tie
 use Rattle.turns.proofs.found.count.Reads as reads
 use Rattle.turns.proofs.found.count.Lts as lts
-use Rattle.sets.proofs.cell.least.Reads as least-reads
+use Rattle.cells.proofs.cell.least.Reads as least-reads
 
 least-requires : tie.Need-least-requires
 least-requires c κs = search needs

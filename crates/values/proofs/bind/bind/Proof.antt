@@ -1,5 +1,5 @@
 use borrow.Author.Needs.{needs}
-use Rattle.values.specs.Binding.{boundAt}
+use Rattle.values.specs.twins.Binding.{boundAt}
 use Rattle.values.proofs.bind.bind.Statement.{statement}
 use Rattle.values.proofs.bind.bind.Tie as tie
 use Rattle.values.proofs.bind.bind.Reads as reads

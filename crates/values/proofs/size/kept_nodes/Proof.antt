@@ -1,11 +1,11 @@
 use borrow.Author.Needs.{needs}
-use Rattle.values.specs.Sizes.{keptNodes}
+use Rattle.values.specs.twins.Sizes.{keptNodes}
 use Rattle.values.proofs.size.kept_nodes.Statement.{statement}
 use Rattle.values.proofs.size.kept_nodes.Tie as tie
 use Rattle.values.proofs.size.kept_nodes.Reads as reads
 use Rattle.values.proofs.size.kept_nodes.Lts as lts
 use Rattle.heap.proofs.entry.nodes.Reads as nodes-reads
-use Rattle.sets.proofs.cell.least.Reads as least-reads
+use Rattle.cells.proofs.cell.least.Reads as least-reads
 
 nodes-requires : tie.Need-nodes-requires
 nodes-requires c κs = search needs

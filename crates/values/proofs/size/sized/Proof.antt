@@ -1,6 +1,6 @@
 use borrow.Author.Needs.{needs}
 use borrow.Author.Tests.{lt-ltb, le-ltb}
-use Rattle.values.specs.Sizes.{sizedAs}
+use Rattle.values.specs.twins.Sizes.{sizedAs}
 use Rattle.values.proofs.size.sized.Statement.{statement}
 use Rattle.values.proofs.size.sized.Tie as tie
 use Rattle.values.proofs.size.sized.Reads as reads

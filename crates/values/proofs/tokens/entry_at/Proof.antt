@@ -1,11 +1,11 @@
 use borrow.Author.Tests.{lt-ltb, le-ltb}
-use Rattle.values.specs.Values.{entryAt}
+use Rattle.values.specs.twins.Values.{entryAt}
 use borrow.Author.Needs.{needs}
 use Rattle.values.proofs.tokens.entry_at.Statement.{statement}
 use Rattle.values.proofs.tokens.entry_at.Tie as tie
 use Rattle.values.proofs.tokens.entry_at.Reads as reads
 use Rattle.values.proofs.tokens.entry_at.Lts as lts
-use Rattle.values.proofs.tokens.wide.Reads as wide-reads
+use Rattle.cells.proofs.cell.wide.Reads as wide-reads
 
 mul-from : tie.Need-mul-from
 mul-from c = search needs
@@ -48,7 +48,7 @@ wide-requires-2 c κs = search needs
 
 returns : tie.Need-returns
 unfolding entryAt
-returns c = rw (lt-ltb _ _ (c .before .before .before .before .before .if1 .taken), c .before .wide .ensures, c .wide2 .ensures)
+returns c = rw (lt-ltb _ _ (c .before .before .before .before .before .if1 .taken), c .before .wide .ensures .0, c .wide2 .ensures .0)
 
 returns-2 : tie.Need-returns-2
 unfolding entryAt

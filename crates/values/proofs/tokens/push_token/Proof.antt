@@ -1,5 +1,5 @@
 use borrow.Author.Tests.{eq-eqb, ne-eqb}
-use Rattle.values.specs.Values.{tokenWritten}
+use Rattle.values.specs.twins.Values.{tokenWritten}
 use borrow.Author.Needs.{needs}
 use Rattle.values.proofs.tokens.push_token.Statement.{statement}
 use Rattle.values.proofs.tokens.push_token.Tie as tie

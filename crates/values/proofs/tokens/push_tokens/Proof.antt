@@ -1,6 +1,6 @@
 use mathlib.Core.Path.{_≡_}
 use Prim.Native.Nat.{_-_}
-use Rattle.values.specs.Values.{tokensWritten}
+use Rattle.values.specs.twins.Values.{tokensWritten}
 use Rattle.values.proofs.ValueTurns.{tokens-turn, tokens-end}
 use borrow.Author.Needs.{needs}
 use Rattle.values.proofs.tokens.push_tokens.Statement.{statement}

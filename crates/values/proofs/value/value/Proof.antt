@@ -1,5 +1,5 @@
 use borrow.Author.Tests.{eq-eqb, ne-eqb, lt-ltb, le-ltb}
-use Rattle.values.specs.Values.{valueAt}
+use Rattle.values.specs.twins.Values.{valueAt}
 use borrow.Author.Needs.{needs}
 use Rattle.values.proofs.value.value.Statement.{statement}
 use Rattle.values.proofs.value.value.Tie as tie

@@ -1,6 +1,6 @@
 use mathlib.Core.Path.{ap, _∙_}
 use Rattle.replay.specs.declared.position.Position.{Position}
-use Rattle.turns.specs.States.{stateAt}
+use Rattle.turns.specs.twins.States.{stateAt}
 use Rattle.walk.proofs.BranchTurns.{branch-spends, branch-moves, back-ends, back-goes}
 use borrow.Author.Needs.{needs}
 use Rattle.walk.proofs.back.go_back.Statement.{statement}

@@ -1,4 +1,4 @@
-use Rattle.walk.specs.Backing.{turnedBack}
+use Rattle.walk.specs.twins.Backing.{turnedBack}
 use borrow.Author.Needs.{needs}
 use Rattle.walk.proofs.back.turn_back.Statement.{statement}
 use Rattle.walk.proofs.back.turn_back.Tie as tie

@@ -1,7 +1,7 @@
 use mathlib.Core.Path.{ap, _∙_}
 use borrow.Author.Tests.{lt-ltb, le-ltb, eq-eqb, ne-eqb}
-use Rattle.turns.specs.Finding.{walked, cutOff}
-use Rattle.walk.specs.Jobs.{walkBegun}
+use Rattle.turns.specs.twins.Finding.{walked, cutOff}
+use Rattle.walk.specs.twins.Jobs.{walkBegun}
 use Rattle.turns.specs.declared.found.Ending.the-variants.{Done, Over, Spent}
 use borrow.Author.Needs.{needs}
 use Rattle.walk.proofs.job.walk_begun.Statement.{statement}

@@ -1,4 +1,4 @@
-use Rattle.walk.specs.Leaves.{leafMet}
+use Rattle.walk.specs.twins.Leaves.{leafMet}
 use borrow.Author.Needs.{needs}
 use Rattle.walk.proofs.leaves.meet_leaf.Statement.{statement}
 use Rattle.walk.proofs.leaves.meet_leaf.Tie as tie

@@ -1,4 +1,4 @@
-use Rattle.walk.specs.Making.{madeCall}
+use Rattle.walk.specs.twins.Making.{madeCall}
 use borrow.Author.Needs.{needs}
 use Rattle.walk.proofs.make.make_call.Statement.{statement}
 use Rattle.walk.proofs.make.make_call.Tie as tie

@@ -1,6 +1,6 @@
 use mathlib.Core.Path.{ap}
-use Rattle.trails.specs.TrailCells.{PathLeft}
-use Rattle.walk.specs.Making.{choiceRecorded}
+use Rattle.trails.specs.twins.TrailCells.{PathLeft}
+use Rattle.walk.specs.twins.Making.{choiceRecorded}
 use borrow.Author.Needs.{needs}
 use Rattle.walk.proofs.make.record_choice.Statement.{statement}
 use Rattle.walk.proofs.make.record_choice.Tie as tie

@@ -1,6 +1,6 @@
 use mathlib.Core.Path.{_≡_, refl, _∙_}
 use lib.ListN.{length}
-use Rattle.walk.specs.Walking.{walkedFrom}
+use Rattle.walk.specs.twins.Walking.{walkedFrom}
 use Rattle.walk.proofs.WalkTurns.{walk-again, walk-end}
 use borrow.Author.Needs.{needs}
 use Rattle.walk.proofs.walk.walk_on.Statement.{statement}

@@ -1,4 +1,4 @@
-use Rattle.walk.specs.Walking.{walkTurn}
+use Rattle.walk.specs.twins.Walking.{walkTurn}
 use borrow.Author.Needs.{needs}
 use Rattle.walk.proofs.walk.walk_turn.Statement.{statement}
 use Rattle.walk.proofs.walk.walk_turn.Tie as tie

@@ -1,6 +1,6 @@
 use mathlib.Core.Path.{ap, _∙_, sym}
 use native.Mathlib.Omega.{arith}
-use Rattle.window.specs.Sink.{puts}
+use Rattle.window.specs.twins.Sink.{puts}
 use Rattle.window.proofs.SinkLaws.{behind}
 use Rattle.window.proofs.DigitLaws.{digits-one, digits-more}
 use borrow.Author.Needs.{needs}

@@ -1,6 +1,6 @@
 use borrow.Author.Tests.{eq-eqb, ne-eqb}
 use Rattle.window.proofs.SinkLaws.{behind}
-use Rattle.window.specs.TreeText.{leafText}
+use Rattle.window.specs.twins.TreeText.{leafText}
 use borrow.Author.Needs.{needs}
 use Rattle.window.proofs.leaf.put_leaf.Statement.{statement}
 use Rattle.window.proofs.leaf.put_leaf.Tie as tie

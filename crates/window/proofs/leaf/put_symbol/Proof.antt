@@ -1,5 +1,5 @@
 use borrow.Author.Tests.{lt-ltb, le-ltb}
-use Rattle.window.specs.TreeText.{symbolText}
+use Rattle.window.specs.twins.TreeText.{symbolText}
 use borrow.Author.Needs.{needs}
 use Rattle.window.proofs.leaf.put_symbol.Statement.{statement}
 use Rattle.window.proofs.leaf.put_symbol.Tie as tie

@@ -1,6 +1,6 @@
 use mathlib.Core.Path.{sym}
 use native.Mathlib.Omega.{arith}
-use Rattle.lexer.proofs.CuttingLaws.{part-behind, part-none, part-all}
+use Rattle.cells.proofs.PartLaws.{part-behind, part-none, part-all}
 use borrow.Author.Needs.{needs}
 use Rattle.window.proofs.parts.part.Statement.{statement}
 use Rattle.window.proofs.parts.part.Tie as tie

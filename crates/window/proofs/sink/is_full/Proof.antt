@@ -1,5 +1,5 @@
 use borrow.Author.Tests.{lt-ltb, le-ltb}
-use Rattle.window.specs.Sink.{full}
+use Rattle.window.specs.twins.Sink.{full}
 use Rattle.window.proofs.sink.is_full.Statement.{statement}
 use Rattle.window.proofs.sink.is_full.Tie as tie
 

@@ -1,5 +1,5 @@
 use borrow.Author.Tests.{lt-ltb, le-ltb}
-use Rattle.window.specs.Sink.{pushed, puts}
+use Rattle.window.specs.twins.Sink.{pushed, puts}
 use borrow.Author.Needs.{needs}
 use Rattle.window.proofs.sink.put_byte.Statement.{statement}
 use Rattle.window.proofs.sink.put_byte.Tie as tie

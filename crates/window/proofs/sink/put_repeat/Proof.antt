@@ -1,6 +1,6 @@
 use mathlib.Core.Path.{_≡_, refl, ap, _∙_, sym}
 use lib.ListN.{length, replicate}
-use Rattle.window.specs.Sink.{sink, puts}
+use Rattle.window.specs.twins.Sink.{sink, puts}
 use Rattle.window.proofs.SinkLaws.{onward, puts-none}
 use Rattle.window.proofs.TreeTurns.{repeat-step, repeat-end}
 use borrow.Author.Needs.{needs}

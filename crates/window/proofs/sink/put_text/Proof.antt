@@ -1,7 +1,7 @@
 use Prim.Native.Nat.{_-_}
 use mathlib.Core.Path.{_≡_, refl, ap, _∙_, sym}
 use lib.ListN.{length, drop, drop-of-length-le}
-use Rattle.window.specs.Sink.{sink, puts}
+use Rattle.window.specs.twins.Sink.{sink, puts}
 use Rattle.window.proofs.SinkLaws.{onward, puts-none}
 use Rattle.window.proofs.TreeTurns.{text-step}
 use borrow.Author.Needs.{needs}

@@ -1,14 +1,14 @@
 use Prim.Native.Nat.{ℕ, _+_, _-_, _≤_}
 use mathlib.Core.Path.{_≡_, ap, _∙_, sym}
 use native.Mathlib.Omega.{arith}
-use Rattle.window.specs.TreeText.{closings}
+use Rattle.window.specs.twins.TreeText.{closings}
 use Rattle.window.proofs.TreeTurns.{closings-end, closings-leaf, closings-waits, closings-ends, closings-joins}
 use borrow.Author.Needs.{needs}
 use Rattle.window.proofs.tree.count_closings.Statement.{statement}
 use Rattle.window.proofs.tree.count_closings.Tie as tie
 use Rattle.window.proofs.tree.count_closings.Reads as reads
 use Rattle.window.proofs.tree.count_closings.Lts as lts
-use Rattle.sets.proofs.cell.cell.Reads as cell-reads
+use Rattle.cells.proofs.cell.cell.Reads as cell-reads
 
 abbrev Inv-loop : tie.InvT-loop
 Inv-loop cells to i₀ trees₀ n₀ i trees n = (trees + i ≤ to) × (n + i ≤ to) × (closings cells to 0 ≡ n + closings cells i trees)

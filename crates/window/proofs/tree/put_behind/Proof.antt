@@ -1,7 +1,7 @@
 use borrow.Author.Tests.{lt-ltb, le-ltb}
 use Rattle.window.proofs.SinkLaws.{behind}
 use mathlib.Core.List.{append-nil}
-use Rattle.window.specs.TreeText.{behindLeaf}
+use Rattle.window.specs.twins.TreeText.{behindLeaf}
 use borrow.Author.Needs.{needs}
 use Rattle.window.proofs.tree.put_behind.Statement.{statement}
 use Rattle.window.proofs.tree.put_behind.Tie as tie

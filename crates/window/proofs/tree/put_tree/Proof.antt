@@ -1,9 +1,9 @@
 use mathlib.Core.Path.{_≡_, refl, ap, _∙_, sym}
 use Prim.Native.Nat.{_-_}
 use lib.ListN.{length}
-use Rattle.window.specs.Sink.{sink, puts}
+use Rattle.window.specs.twins.Sink.{sink, puts}
 use Rattle.window.proofs.SinkLaws.{behind, onward, puts-none}
-use Rattle.window.specs.TreeText.{symbolText, treeFrom, treeText}
+use Rattle.window.specs.twins.TreeText.{symbolText, treeFrom, treeText}
 use Rattle.window.proofs.TreeTurns.{tree-start, tree-pair, tree-leaf, tree-end}
 use borrow.Author.Needs.{needs}
 use Rattle.window.proofs.tree.put_tree.Statement.{statement}

@@ -1,12 +1,12 @@
 use borrow.Author.Tests.{eq-eqb, ne-eqb}
-use Rattle.writer.specs.LineText.{pastAt}
+use Rattle.writer.specs.twins.LineText.{pastAt}
 use borrow.Author.Needs.{needs}
 use Rattle.writer.proofs.binding.past.Statement.{statement}
 use Rattle.writer.proofs.binding.past.Tie as tie
 use Rattle.writer.proofs.binding.past.Reads as reads
 use Rattle.writer.proofs.binding.past.Lts as lts
 use Rattle.window.proofs.parts.ahead.Reads as ahead-reads
-use Rattle.sets.proofs.cell.tree_end.Reads as tree-end-reads
+use Rattle.sets.proofs.tree.tree_end.Reads as tree-end-reads
 
 ahead-requires : tie.Need-ahead-requires
 ahead-requires c κs = search needs

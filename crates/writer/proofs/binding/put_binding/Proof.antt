@@ -1,14 +1,14 @@
 use borrow.Author.Tests.{lt-ltb, le-ltb, eq-eqb, ne-eqb}
-use Rattle.window.specs.Sink.{puts}
-use Rattle.writer.specs.LineText.{bindingAt}
+use Rattle.window.specs.twins.Sink.{puts}
+use Rattle.writer.specs.twins.LineText.{bindingAt}
 use borrow.Author.Needs.{needs}
 use Rattle.writer.proofs.binding.put_binding.Statement.{statement}
 use Rattle.writer.proofs.binding.put_binding.Tie as tie
 use Rattle.writer.proofs.binding.put_binding.Reads as reads
 use Rattle.writer.proofs.binding.put_binding.Lts as lts
 use Rattle.writer.proofs.binding.put_bound.Reads as put-bound-reads
-use Rattle.sets.proofs.cell.cell.Reads as cell-reads
-use Rattle.sets.proofs.cell.stands_in.Reads as stands-in-reads
+use Rattle.cells.proofs.cell.cell.Reads as cell-reads
+use Rattle.sets.proofs.tree.stands_in.Reads as stands-in-reads
 
 cell-requires : tie.Need-cell-requires
 cell-requires c κs = search needs

@@ -1,10 +1,10 @@
 use mathlib.Core.Path.{_≡_, refl, ap, _∙_, sym}
 use Prim.Native.Nat.{_-_}
 use lib.ListN.{length}
-use Rattle.window.specs.Sink.{sink, puts}
+use Rattle.window.specs.twins.Sink.{sink, puts}
 use Rattle.window.proofs.SinkLaws.{onward, puts-none}
-use Rattle.window.specs.TreeText.{symbolText}
-use Rattle.writer.specs.LineText.{bindingsFrom, bindingsText}
+use Rattle.window.specs.twins.TreeText.{symbolText}
+use Rattle.writer.specs.twins.LineText.{bindingsFrom, bindingsText}
 use Rattle.writer.proofs.TextTurns.{bindings-start, bindings-step, bindings-end}
 use borrow.Author.Needs.{needs}
 use Rattle.writer.proofs.binding.put_bindings.Statement.{statement}

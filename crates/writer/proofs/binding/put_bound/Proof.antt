@@ -1,5 +1,5 @@
 use Rattle.window.proofs.SinkLaws.{behind}
-use Rattle.writer.specs.LineText.{bindingText}
+use Rattle.writer.specs.twins.LineText.{bindingText}
 use borrow.Author.Needs.{needs}
 use Rattle.writer.proofs.binding.put_bound.Statement.{statement}
 use Rattle.writer.proofs.binding.put_bound.Tie as tie

@@ -1,5 +1,5 @@
 use Rattle.window.proofs.SinkLaws.{behind}
-use Rattle.writer.specs.LineText.{lineText}
+use Rattle.writer.specs.twins.LineText.{lineText}
 use borrow.Author.Needs.{needs}
 use Rattle.writer.proofs.line.put_line.Statement.{statement}
 use Rattle.writer.proofs.line.put_line.Tie as tie
@@ -12,7 +12,7 @@ use Rattle.writer.proofs.line.put_numbers.Reads as put-numbers-reads
 use Rattle.writer.proofs.line.put_restriction.Reads as put-restriction-reads
 use Rattle.window.proofs.parts.part.Reads as part-reads
 use Rattle.window.proofs.sink.put_byte.Reads as put-byte-reads
-use Rattle.sets.proofs.cell.cell.Reads as cell-reads
+use Rattle.cells.proofs.cell.cell.Reads as cell-reads
 
 class-end-requires : tie.Need-class-end-requires
 class-end-requires c κs = search needs

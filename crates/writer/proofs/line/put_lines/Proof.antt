@@ -3,10 +3,10 @@ use Prim.Native.Nat.{ℕ, _+_, _-_, _<_, min}
 use mathlib.Core.List.{List, _++_}
 use native.Mathlib.Omega.{arith}
 use lib.ListN.{length, drop, length-drop}
-use Rattle.window.specs.Sink.{sink, puts}
+use Rattle.window.specs.twins.Sink.{sink, puts}
 use Rattle.window.proofs.SinkLaws.{onward, puts-none, puts-full}
-use Rattle.window.specs.TreeText.{symbolText}
-use Rattle.writer.specs.LineText.{lineEnd, lineText, linesText}
+use Rattle.window.specs.twins.TreeText.{symbolText}
+use Rattle.writer.specs.twins.LineText.{lineEnd, lineText, linesText}
 use Rattle.writer.proofs.TextTurns.{lines-start, lines-out, lines-step, lines-end, drop-ahead}
 use borrow.Author.Needs.{needs}
 use Rattle.writer.proofs.line.put_lines.Statement.{statement}

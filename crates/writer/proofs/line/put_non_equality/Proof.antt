@@ -1,5 +1,5 @@
 use Rattle.window.proofs.SinkLaws.{behind}
-use Rattle.writer.specs.LineText.{nonEqualityText}
+use Rattle.writer.specs.twins.LineText.{nonEqualityText}
 use borrow.Author.Needs.{needs}
 use Rattle.writer.proofs.line.put_non_equality.Statement.{statement}
 use Rattle.writer.proofs.line.put_non_equality.Tie as tie

@@ -2,10 +2,10 @@ use mathlib.Core.Path.{_≡_, refl, ap, _∙_, sym}
 use Prim.Native.Nat.{_≤_, _-_}
 use native.Mathlib.Omega.{arith}
 use lib.ListN.{length, drop}
-use Rattle.window.specs.Sink.{sink, puts}
+use Rattle.window.specs.twins.Sink.{sink, puts}
 use Rattle.window.proofs.SinkLaws.{onward, puts-none}
-use Rattle.window.specs.TreeText.{symbolText}
-use Rattle.writer.specs.LineText.{restrictionText}
+use Rattle.window.specs.twins.TreeText.{symbolText}
+use Rattle.writer.specs.twins.LineText.{restrictionText}
 use Rattle.writer.proofs.TextTurns.{restriction-step, restriction-end}
 use borrow.Author.Needs.{needs}
 use Rattle.writer.proofs.line.put_restriction.Statement.{statement}

@@ -1,9 +1,9 @@
 use mathlib.Core.Path.{ap, _∙_}
 use Prim.Native.Nat.{ℕ}
 use mathlib.Core.List.{List}
-use Rattle.window.specs.Sink.{puts}
-use Rattle.window.specs.TreeText.{symbolText}
-use Rattle.writer.specs.OutcomeText.{outcomeText}
+use Rattle.window.specs.twins.Sink.{puts}
+use Rattle.window.specs.twins.TreeText.{symbolText}
+use Rattle.writer.specs.twins.OutcomeText.{outcomeText}
 use Rattle.window.proofs.SinkLaws.{printed}
 use borrow.Author.Needs.{needs}
 use Rattle.writer.proofs.outcome.print_outcome.Statement.{statement}

@@ -1,7 +1,7 @@
 use mathlib.Core.Path.{ap, _∙_}
-use Rattle.window.specs.Sink.{puts}
-use Rattle.window.specs.TreeText.{symbolText}
-use Rattle.writer.specs.OutcomeText.{valueText}
+use Rattle.window.specs.twins.Sink.{puts}
+use Rattle.window.specs.twins.TreeText.{symbolText}
+use Rattle.writer.specs.twins.OutcomeText.{valueText}
 use borrow.Author.Needs.{needs}
 use Rattle.writer.proofs.outcome.put_outcome.Statement.{statement}
 use Rattle.writer.proofs.outcome.put_outcome.Tie as tie

@@ -1,5 +1,5 @@
 use Rattle.window.proofs.SinkLaws.{behind}
-use Rattle.writer.specs.OutcomeText.{valueText}
+use Rattle.writer.specs.twins.OutcomeText.{valueText}
 use borrow.Author.Needs.{needs}
 use Rattle.writer.proofs.outcome.put_value.Statement.{statement}
 use Rattle.writer.proofs.outcome.put_value.Tie as tie

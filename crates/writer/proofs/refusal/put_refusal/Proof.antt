@@ -1,5 +1,5 @@
 use mathlib.Core.Path.{ap, _∙_}
-use Rattle.window.specs.Sink.{puts}
+use Rattle.window.specs.twins.Sink.{puts}
 use Rattle.window.proofs.SinkLaws.{behind}
 use Rattle.writer.proofs.TextTurns.{refusal-text}
 use borrow.Author.Needs.{needs}
