@@ -1,5 +1,7 @@
-// "A file that cannot be read counts as empty" (01, "Printing, and cases"): also where a part of it was read before a read failed.
+// "A file that cannot be read counts as empty" (01, "Printing, and cases"): also where a part of it was read before a read failed. Standard error has the
+// file's error, as the system has it.
 use libc::EINTR;
+use libc::STDIN_FILENO;
 use window::sink::clear;
 ghost use mathlib.Core.Path.{_≡_};
 ghost use Prim.Native.Nat.{_-_, _≤_};
@@ -13,8 +15,9 @@ pub const JOB: usize = 8193;
 // How many reads a file may take. Each that does not fail brings a byte; the others were interrupted by a signal.
 const READS: usize = 1000000;
 
-// The bytes up to the end of the file, or as many as there is room for: how many they are, or 0 where a read fails.
-fn read_whole(fd: i32, buf: &mut [u8]) -> usize
+// The bytes up to the end of the file, or as many as there is room for: how many they are, or 0 where a read fails, as standard error then
+// says of the path.
+fn read_whole(fd: i32, path: &[u8], buf: &mut [u8]) -> usize
     ensures { λ r. ⌜ r ≤ length (now (buf .entry)) ⌝ }
 {
     let mut done: usize = 0;
@@ -33,6 +36,7 @@ fn read_whole(fd: i32, buf: &mut [u8]) -> usize
             if os::errno() == EINTR {
                 continue;
             }
+            os::fail(path);
             return 0;
         }
         done += io::count(got, rest);
@@ -46,9 +50,10 @@ fn read_path(path: &[u8], buf: &mut [u8]) -> usize
 {
     let fd = os::open_read(path);
     if fd < 0 {
+        os::fail(path);
         return 0;
     }
-    let n = read_whole(fd, buf);
+    let n = read_whole(fd, path, buf);
     libc::close(fd);
     n
 }
@@ -59,6 +64,15 @@ pub fn read_file(path: &[u8], buf: &mut [u8]) -> usize
     ensures { λ r. ⌜ (r ≤ length (now (buf .entry))) × (drop r (now (buf .exit)) ≡ replicate (length (now (buf .entry)) - r) 0) ⌝ }
 {
     let n = read_path(path, buf);
+    clear(&mut buf[n..]);
+    n
+}
+
+// The same of standard input.
+pub fn read_input(buf: &mut [u8]) -> usize
+    ensures { λ r. ⌜ (r ≤ length (now (buf .entry))) × (drop r (now (buf .exit)) ≡ replicate (length (now (buf .entry)) - r) 0) ⌝ }
+{
+    let n = read_whole(STDIN_FILENO, b"standard input", buf);
     clear(&mut buf[n..]);
     n
 }

@@ -26,6 +26,17 @@ pub struct Written {
     pub whole: bool,
 }
 
+// What was written, and what it is the text of.
+pub struct ListWritten {
+    pub written: Written,
+    pub answer: answers::list::Answer,
+}
+
+pub struct RunWritten {
+    pub written: Written,
+    pub answer: answers::run::Answer,
+}
+
 // Whether a write that took nothing may take something later: a signal came between, or the reader of a pipe that does not wait is behind.
 fn may_try_again() -> bool {
     let error = os::errno();
@@ -132,8 +143,8 @@ fn write_run(program: &[u8], job: &[u8], answer: answers::run::Answer, cells: &[
 }
 
 // Writes the listing of the two texts.
-pub fn list_texts(program: &[u8], job: &[u8]) -> Written
-    ensures { λ r. ⌜ (let w = listLeft (now (program .entry)) (now (job .entry)) (replicate 8194 0) (replicate 17408 0) in r .whole ≡ true → r .bytes ≡ length (listedText (now (program .entry)) (now (job .entry)) (w .cells) (w .answer))) ⌝ }
+pub fn list_texts(program: &[u8], job: &[u8]) -> ListWritten
+    ensures { λ r. ⌜ (let w = listLeft (now (program .entry)) (now (job .entry)) (replicate 8194 0) (replicate 17408 0) in (r .answer ≡ w .answer) × (r .written .whole ≡ true → r .written .bytes ≡ length (listedText (now (program .entry)) (now (job .entry)) (w .cells) (w .answer)))) ⌝ }
 {
     let mut work_space = [0u16; list::WORK];
     let mut answer_space = [0u16; list::ANSWER];
@@ -142,17 +153,25 @@ pub fn list_texts(program: &[u8], job: &[u8]) -> Written
     let mut page = io::large_buffer();
     let listed = list_first(program, job, work, answer, &mut page);
     let said = listed.answer;
-    write_list(program, job, said, answer, listed.bytes, &mut page)
+    let written = write_list(program, job, said, answer, listed.bytes, &mut page);
+    ListWritten {
+        written: written,
+        answer: said,
+    }
 }
 
 // Writes the line of the program's run on the job's inputs.
-pub fn run_texts(program: &[u8], job: &[u8]) -> Written
-    ensures { λ r. ⌜ (let w = runLeft (now (program .entry)) (now (job .entry)) (replicate 8194 0) (replicate 4096 0) in r .whole ≡ true → r .bytes ≡ length (ranText (now (program .entry)) (now (job .entry)) (w .cells) (w .answer))) ⌝ }
+pub fn run_texts(program: &[u8], job: &[u8]) -> RunWritten
+    ensures { λ r. ⌜ (let w = runLeft (now (program .entry)) (now (job .entry)) (replicate 8194 0) (replicate 4096 0) in (r .answer ≡ w .answer) × (r .written .whole ≡ true → r .written .bytes ≡ length (ranText (now (program .entry)) (now (job .entry)) (w .cells) (w .answer)))) ⌝ }
 {
     let mut work_space = [0u16; run::WORK];
     let mut answer_space = [0u16; run::ANSWER];
     let work: &mut [u16] = &mut work_space;
     let answer: &mut [u16] = &mut answer_space;
     let said = run::run(program, job, work, answer);
-    write_run(program, job, said, answer)
+    let written = write_run(program, job, said, answer);
+    RunWritten {
+        written: written,
+        answer: said,
+    }
 }

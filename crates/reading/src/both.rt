@@ -1,4 +1,4 @@
-// Both texts read and checked, and where their parts stand (01, "Both", "From the input"): "Order: the program first, then the job."
+// Both texts read and checked, and where their parts stand (01, "From the input"): "Order: the program first, then the job."
 use lent::read::Read;
 use lent::read::long_enough;
 use syntax::ends::mark_ends;

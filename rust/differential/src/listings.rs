@@ -1,6 +1,6 @@
 //! Listings: what `list` says, prints and leaves, alone and with its first page, and what its lines mean.
 use crate::entry::Entry;
-use raugvite::{list_in, list_lengths, list_print_in, print_list, Expression, Listed};
+use raugvite::{list_in, list_lengths, list_print_in, print_list, Expression, Listed, Stop};
 use reference::expression::{Expression as Tree, Kind};
 use reference::ground::{check_listing, Universe};
 use reference::job_check::Tool;
@@ -8,14 +8,15 @@ use reference::restriction::NonEquality;
 use reference::{Line, Listing, Word};
 
 fn word_of(said: Listed) -> Option<(Word, usize, usize)> {
-    match said {
-        Listed::Whole { lines, count } => Some((Word::Whole, lines, count)),
-        Listed::Cut { lines, count } => Some((Word::Cut, lines, count)),
-        Listed::Stop21 { lines, count } => Some((Word::Stop21, lines, count)),
-        Listed::Stop22 { lines, count } => Some((Word::Stop22, lines, count)),
-        Listed::Stop23 { lines, count } => Some((Word::Stop23, lines, count)),
-        Listed::Program { .. } | Listed::Job { .. } | Listed::Short => None,
-    }
+    let word = match said {
+        Listed::Whole { .. } => Word::Whole,
+        Listed::Cut { .. } => Word::Cut,
+        Listed::Stopped { stop: Stop::Nodes, .. } => Word::Stop21,
+        Listed::Stopped { stop: Stop::Lines, .. } => Word::Stop22,
+        Listed::Stopped { stop: Stop::Transitions, .. } => Word::Stop23,
+        Listed::Refused(_) | Listed::Short => return None,
+    };
+    Some((word, said.lines_found(), said.transitions()))
 }
 
 pub struct List;
@@ -109,8 +110,8 @@ impl Entry for ListPrint {
 fn tree(e: &Expression) -> Tree {
     match e {
         Expression::Symbol(word) => Tree::atom(word),
-        Expression::Any(number) => Tree::variable(Kind::E, u32::from(*number)),
-        Expression::Atom(number) => Tree::variable(Kind::A, u32::from(*number)),
+        Expression::AnyValue(number) => Tree::variable(Kind::E, u32::from(*number)),
+        Expression::AnyAtom(number) => Tree::variable(Kind::A, u32::from(*number)),
         Expression::Pair(head, tail) => Tree::pair(tree(head), tree(tail)),
     }
 }
@@ -133,8 +134,8 @@ pub fn meaning(program: &[u8], job: &[u8], budget: usize) -> Result<(), String> 
         return Ok(());
     };
     let listing = raugvite::list(program, job);
-    let (word, _, count) = word_of(listing.answer).ok_or("refused")?;
-    let lines = listing.lines.iter().map(line).collect();
-    let ours = Listing::Listed { word, lines, count: count as u32 };
+    let (word, _, transitions) = word_of(listing.answer()).ok_or("refused")?;
+    let lines = listing.lines_found().iter().map(line).collect();
+    let ours = Listing::Listed { word, lines, count: transitions as u32 };
     check_listing(&checked, &read, &Universe::new(program, job), &ours, budget).map(|_| ())
 }

@@ -1,7 +1,9 @@
 //! The resolver against an implementation written apart from it.
 //!
-//!     differential [SEED [COUNT]]                COUNT generated cases from SEED on
-//!     differential program PATH [SEED [COUNT]]   the same texts as files, given to the program at PATH, and what it prints
+//! ```text
+//! differential [SEED [COUNT]]                COUNT generated cases from SEED on
+//! differential program PATH [SEED [COUNT]]   the same texts as files, given to the program at PATH, and what it prints
+//! ```
 //!
 //! Each case is two texts, sound or damaged. Listing, run and what is left in every storage are compared, the storages lie between guard cells
 //! and are full of garbage before; and for some cases ground inputs are enumerated and each pair has to lie in the one line that demand 3
@@ -56,10 +58,10 @@ fn ground(name: &str, texts: &Case, tally: &mut Tally) {
 fn endless(texts: &Case, tally: &mut Tally) {
     let (work, answer) = raugvite::list_lengths();
     let (mut work, mut answer) = (vec![0; work], vec![0; answer]);
-    raugvite::list_in(&texts.program, &texts.job, &mut work, &mut answer);
+    let _ = raugvite::list_in(&texts.program, &texts.job, &mut work, &mut answer);
     for lines in [100_000_000, usize::MAX] {
         let began = Instant::now();
-        raugvite::print_list(&texts.program, &texts.job, raugvite::Listed::Whole { lines, count: 0 }, &answer);
+        raugvite::print_list(&texts.program, &texts.job, raugvite::Listed::Whole { lines, transitions: 0 }, &answer);
         let took = began.elapsed().as_secs();
         tally.add("a listing that claims lines without end", if took < 5 { Ok(()) } else { Err(format!("{took} s")) });
     }

@@ -27,8 +27,8 @@ impl Entry for Run {
     fn filled(said: Ran, _: &[u16]) -> Option<usize> {
         match said {
             Ran::Value { length, .. } => Some(length),
-            Ran::Over | Ran::NotWithin => Some(0),
-            Ran::Program { .. } | Ran::Job { .. } | Ran::Short => None,
+            Ran::Stopped | Ran::NotWithin => Some(0),
+            Ran::Refused(_) | Ran::Short => None,
         }
     }
 }

@@ -1,32 +1,12 @@
 //! Lines and values read from cells, as docs/STORAGE.md has them.
-
-/// An expression: symbols by their words, variables by their numbers.
-#[derive(Clone, Debug, PartialEq, Eq)]
-pub enum Expression {
-    /// `'Z`
-    Symbol(String),
-    /// `?eK`: any value
-    Any(u16),
-    /// `?aK`: an atom
-    Atom(u16),
-    /// `(cons HEAD TAIL)`
-    Pair(Box<Expression>, Box<Expression>),
-}
-
-/// A line of a listing: the pairs of inputs and output that its variables' values give, as far as the sides of `unequal` differ.
-#[derive(Clone, Debug, PartialEq, Eq)]
-pub struct Line {
-    pub steps: usize,
-    pub inputs: Vec<Expression>,
-    pub output: Expression,
-    pub unequal: Vec<(Expression, Expression)>,
-}
+use crate::expressions::Expression;
+use crate::lines::Line;
 
 fn leaf(cell: u16, words: &[String]) -> Expression {
     let number = cell / 4;
     match cell % 4 {
-        2 => Expression::Any(number),
-        3 => Expression::Atom(number),
+        2 => Expression::AnyValue(number),
+        3 => Expression::AnyAtom(number),
         _ => Expression::Symbol(words[usize::from(number)].clone()),
     }
 }
@@ -63,4 +43,34 @@ pub fn lines(answer: &[u16], count: usize, words: &[String]) -> Vec<Line> {
         at += 4 + i + o + 2 * q;
     }
     found
+}
+
+#[cfg(test)]
+mod tests {
+    use super::*;
+
+    fn words() -> Vec<String> {
+        ["A", "B"].map(String::from).to_vec()
+    }
+
+    fn shown(trees: &[Expression]) -> Vec<String> {
+        trees.iter().map(Expression::to_string).collect()
+    }
+
+    // The example of docs/STORAGE.md, and every kind of cell.
+    #[test]
+    fn cells_of_trees() {
+        assert_eq!(shown(&trees(&[4, 1, 6], &words())), ["(cons 'A ?e1)"]);
+        assert_eq!(shown(&trees(&[5, 4, 4, 1, 7, 10, 3], &words())), ["'B", "(cons (cons 'A ?a1) ?e2)", "?a0"]);
+        assert!(trees(&[], &words()).is_empty());
+    }
+
+    #[test]
+    fn cells_of_lines() {
+        let cells = [3, 1, 1, 1, 7, 5, 7, 1, 4, 4, 3, 0, 1, 4, 6, 5, 4, 5, 5, 0, 0];
+        let found = lines(&cells, 2, &words());
+        assert_eq!(found[0].to_string(), "(in ?a1) (out 'B) (neq [?a1 'A])");
+        assert_eq!(found[1].to_string(), "(in 'A (cons ?e1 'B)) (out (cons 'B 'B)) (neq)");
+        assert_eq!(found.iter().map(|line| line.steps).collect::<Vec<_>>(), [3, 4]);
+    }
 }

@@ -1,58 +1,70 @@
 //! The resolver for loader rules, from Rust.
 //!
-//! [`list`] gives the listing of a program and a job with its lines as owned expressions, [`run`] the program run forwards on the job's inputs.
-//! [`list_in`], [`list_print_in`] and [`run_in`] work in storage that the caller lends. All of them end for any bytes and any storage; what is
-//! proved of them is in docs/CONTRACTS.md, and what the boundary adds in docs/TRUST.md. A call takes up to 330 KB of stack; a thread that Rust
-//! starts has 2 MB.
+//! A rule is a small program in TSG, and a job asks which inputs get a wanted answer. [`list`] gives the listing, one line for each sort of them,
+//! with its lines as owned expressions; [`list_whole`] gives it only where it is whole. [`run`] runs the program forwards on the job's inputs.
+//!
+//! ```
+//! // The program says Yes for two equal atoms; the job asks for every pair of inputs that gets No.
+//! let program = b"(define same [e.x e.y] (if (cons? e.x e.h e.t a.p) 'No
+//!     (if (cons? e.y e.h e.t a.q) 'No (if (eqa? a.p a.q) 'Yes 'No))))";
+//! let job = b"(job (in ?e1 ?e2) (out 'No) (neq) (steps 4) (walk 7) (table 3))";
+//!
+//! let whole = raugvite::list_whole(program, job)?;
+//! assert_eq!(
+//!     whole.to_string(),
+//!     "whole 3 7\n\
+//!      1 2 ?e1=(cons ?e3 ?e4)\n\
+//!      2 3 ?e1=?a5 ?e2=(cons ?e6 ?e7)\n\
+//!      3 4 ?e1=?a5 ?e2=?a8 # ?a5 ?a8"
+//! );
+//!
+//! // The last line: two atoms that differ.
+//! let last = &whole.lines()[2];
+//! assert_eq!(last.inputs, ["?a5".parse()?, "?a8".parse()?]);
+//! assert_eq!(last.unequal, [("?a5".parse()?, "?a8".parse()?)]);
+//! # Ok::<(), Box<dyn std::error::Error>>(())
+//! ```
+//!
+//! # What a listing came to
+//!
+//! A loader is released from a listing, so one that is cut or stopped must not pass for all there is: see [`Listing`] for its lines, and [`Whole`]
+//! for the type that says it. Which function to take:
+//!
+//! | function | what is an error |
+//! |---|---|
+//! | [`list_whole`] | everything but a whole listing |
+//! | [`try_list`], [`try_run`] | a refused text |
+//! | [`list`], [`run`] | nothing; [`Listed`] and [`Ran`] have the cases |
+//!
+//! # Storage
+//!
+//! [`list`] and [`run`] have storage for each thread, which is kept from call to call. [`list_in`], [`list_print_in`] and [`run_in`] work in storage
+//! that the caller lends; docs/STORAGE.md says what stands in it afterwards, and [`print_list`] and [`print_run`] print it.
+//!
+//! All of them end for any bytes and any storage. What is proved of them is in docs/CONTRACTS.md, and what the boundary adds in docs/TRUST.md. A
+//! call takes up to 330 KB of stack; a thread that Rust starts has 2 MB.
+#![deny(missing_docs)]
+
+mod answers;
 mod cells;
+mod expressions;
+mod json;
+mod lines;
+mod listing;
+mod refusals;
 mod symbols;
 mod sys;
 
+use answers::{listed, listed_numbers, ran, ran_numbers, SHORT};
 use std::cell::RefCell;
 
-pub use cells::{Expression, Line};
+pub use answers::{Listed, Ran, Stop};
+pub use expressions::{Expression, NotAnExpression};
+pub use lines::{Binding, Line, PrintedLine};
+pub use listing::{Listing, NotWhole, Run, Whole};
+pub use refusals::{sentence, Position, Refusal, Text};
 
-/// What a listing came to. The numbers are the lines in storage and the transitions made.
-#[derive(Clone, Copy, Debug, PartialEq, Eq)]
-pub enum Listed {
-    Whole { lines: usize, count: usize },
-    Cut { lines: usize, count: usize },
-    Stop21 { lines: usize, count: usize },
-    Stop22 { lines: usize, count: usize },
-    Stop23 { lines: usize, count: usize },
-    Program { number: usize, offset: usize },
-    Job { number: usize, offset: usize },
-    Short,
-}
-
-/// What a run came to: its steps and the cells of its value, 21, no end within the job's steps, or a refusal.
-#[derive(Clone, Copy, Debug, PartialEq, Eq)]
-pub enum Ran {
-    Value { steps: usize, length: usize },
-    Over,
-    NotWithin,
-    Program { number: usize, offset: usize },
-    Job { number: usize, offset: usize },
-    Short,
-}
-
-/// A listing with its lines.
-#[derive(Clone, Debug, PartialEq, Eq)]
-pub struct Listing {
-    pub answer: Listed,
-    pub lines: Vec<Line>,
-    pub text: Vec<u8>,
-}
-
-/// A run with its value.
-#[derive(Clone, Debug, PartialEq, Eq)]
-pub struct Run {
-    pub answer: Ran,
-    pub value: Option<Expression>,
-    pub text: Vec<u8>,
-}
-
-/// The least lengths of `work` and `answer` for [`list_in`], in cells.
+/// The least lengths of `work` and `answer` for [`list_in`] and [`list_print_in`], in cells.
 pub fn list_lengths() -> (usize, usize) {
     sys::list_lengths()
 }
@@ -62,82 +74,49 @@ pub fn run_lengths() -> (usize, usize) {
     sys::run_lengths()
 }
 
-// The letters of a refused text, and the number of storage that is too short.
-const PROGRAM: usize = b'p' as usize;
-const JOB: usize = b'j' as usize;
-const SHORT: usize = 20;
-
-// The number of an answer, and letter, offset, cut, lines and transitions.
-fn listed(number: usize, [letter, offset, cut, lines, count]: [usize; 5]) -> Listed {
-    match (number, letter, cut) {
-        (SHORT, _, _) => Listed::Short,
-        (_, PROGRAM, _) => Listed::Program { number, offset },
-        (_, JOB, _) => Listed::Job { number, offset },
-        (21, _, _) => Listed::Stop21 { lines, count },
-        (22, _, _) => Listed::Stop22 { lines, count },
-        (23, _, _) => Listed::Stop23 { lines, count },
-        (_, _, 1) => Listed::Cut { lines, count },
-        _ => Listed::Whole { lines, count },
-    }
-}
-
-fn listed_numbers(said: Listed) -> (usize, [usize; 5]) {
-    match said {
-        Listed::Whole { lines, count } => (0, [0, 0, 0, lines, count]),
-        Listed::Cut { lines, count } => (0, [0, 0, 1, lines, count]),
-        Listed::Stop21 { lines, count } => (21, [0, 0, 0, lines, count]),
-        Listed::Stop22 { lines, count } => (22, [0, 0, 0, lines, count]),
-        Listed::Stop23 { lines, count } => (23, [0, 0, 0, lines, count]),
-        Listed::Program { number, offset } => (number, [PROGRAM, offset, 0, 0, 0]),
-        Listed::Job { number, offset } => (number, [JOB, offset, 0, 0, 0]),
-        Listed::Short => (SHORT, [0; 5]),
-    }
-}
-
-// The number of an answer, and letter, offset, steps and length; a value has a cell at least.
-fn ran(number: usize, [letter, offset, steps, length]: [usize; 4]) -> Ran {
-    match (number, letter, length) {
-        (SHORT, _, _) => Ran::Short,
-        (_, PROGRAM, _) => Ran::Program { number, offset },
-        (_, JOB, _) => Ran::Job { number, offset },
-        (21, _, _) => Ran::Over,
-        (_, _, 0) => Ran::NotWithin,
-        _ => Ran::Value { steps, length },
-    }
-}
-
-fn ran_numbers(said: Ran) -> (usize, [usize; 4]) {
-    match said {
-        Ran::Value { steps, length } => (0, [0, 0, steps, length]),
-        Ran::Over => (21, [0; 4]),
-        Ran::NotWithin => (0, [0; 4]),
-        Ran::Program { number, offset } => (number, [PROGRAM, offset, 0, 0]),
-        Ran::Job { number, offset } => (number, [JOB, offset, 0, 0]),
-        Ran::Short => (SHORT, [0; 4]),
-    }
-}
-
 /// The listing of a program and a job, in lent storage.
+///
+/// The storages may hold anything and may be longer than [`list_lengths`] says. Where one is shorter the answer is [`Listed::Short`], and nothing is
+/// touched. Else `work` is zero to its end afterwards; `answer` has the cells of the lines and zeros behind them, or is as it was where a text is
+/// refused.
+///
+/// ```
+/// use raugvite::{list_in, list_lengths, print_list, Listed};
+///
+/// let program = b"(define dub [e.x] (cons e.x 'K))";
+/// let job = b"(job (in ?e1) (out ?e2) (neq) (steps 1) (walk 1) (table 1))";
+/// let (work, answer) = list_lengths();
+/// let (mut work, mut answer) = (vec![0; work], vec![0; answer]);
+/// let listed = list_in(program, job, &mut work, &mut answer);
+/// assert_eq!(listed, Listed::Whole { lines: 1, transitions: 1 });
+/// assert_eq!(print_list(program, job, listed, &answer), b"whole 1 1\n1 1 ?e2=(cons ?e1 'K)\n");
+/// assert_eq!(list_in(program, job, &mut work[1..], &mut answer), Listed::Short);
+/// ```
 pub fn list_in(program: &[u8], job: &[u8], work: &mut [u16], answer: &mut [u16]) -> Listed {
     let (number, said) = sys::list(program, job, work, answer);
     listed(number, said)
 }
 
-/// The same, and in `out` the printed text from its first byte on: how many bytes of it there are. The texts are read once.
+/// [`list_in`], and in `out` the printed text from its first byte on: how many bytes of it there are. Zeros stand behind them. Where `out` is full
+/// the text may be longer, and [`print_list`] prints all of it. The texts are read once.
 pub fn list_print_in(program: &[u8], job: &[u8], work: &mut [u16], answer: &mut [u16], out: &mut [u8]) -> (Listed, usize) {
-    let (number, [letter, offset, cut, lines, count, bytes]) = sys::list_print(program, job, work, answer, out);
+    let (number, [letter, offset, cut, lines, transitions, bytes]) = sys::list_print(program, job, work, answer, out);
     // 20 says nothing beside its number; its text stands in `out` as any other, with zeros behind it and none in it.
     let bytes = if number == SHORT { out.iter().take_while(|&&b| b != 0).count() } else { bytes };
-    (listed(number, [letter, offset, cut, lines, count]), bytes)
+    (listed(number, [letter, offset, cut, lines, transitions]), bytes)
 }
 
 /// The program run forwards on the job's inputs, in lent storage.
+///
+/// The storages may hold anything and may be longer than [`run_lengths`] says. Where one is shorter the answer is [`Ran::Short`], and nothing is
+/// touched. Else `work` is zero to its end afterwards; `answer` has the cells of the value and zeros behind them, is zero where there is none, or is
+/// as it was where a text is refused.
 pub fn run_in(program: &[u8], job: &[u8], work: &mut [u16], answer: &mut [u16]) -> Ran {
     let (number, said) = sys::run(program, job, work, answer);
     ran(number, said)
 }
 
-/// The printed text of an answer, whole; `answer` is the storage that [`list_in`] left.
+/// The printed text of an answer, to its end; `answer` is the storage that [`list_in`] or [`list_print_in`] left.
 pub fn print_list(program: &[u8], job: &[u8], said: Listed, answer: &[u16]) -> Vec<u8> {
     print_list_on(program, job, said, answer, Vec::new())
 }
@@ -150,8 +129,12 @@ fn print_list_on(program: &[u8], job: &[u8], said: Listed, answer: &[u16], text:
 
 /// The same of a run; `answer` is the storage that [`run_in`] left.
 pub fn print_run(program: &[u8], job: &[u8], said: Ran, answer: &[u16]) -> Vec<u8> {
+    print_run_on(program, job, said, answer, Vec::new())
+}
+
+fn print_run_on(program: &[u8], job: &[u8], said: Ran, answer: &[u16], text: Vec<u8>) -> Vec<u8> {
     let numbers = ran_numbers(said);
-    pages(Vec::new(), |from, page| sys::print_run(program, job, numbers, answer, from, page))
+    pages(text, |from, page| sys::print_run(program, job, numbers, answer, from, page))
 }
 
 // A text is fetched page by page, so that no bound on its length is needed.
@@ -166,15 +149,7 @@ fn pages(mut text: Vec<u8>, fetch: impl Fn(usize, &mut [u8]) -> usize) -> Vec<u8
     }
 }
 
-fn lines_in(said: Listed) -> usize {
-    match said {
-        Listed::Whole { lines, .. } | Listed::Cut { lines, .. } => lines,
-        Listed::Stop21 { lines, .. } | Listed::Stop22 { lines, .. } | Listed::Stop23 { lines, .. } => lines,
-        Listed::Program { .. } | Listed::Job { .. } | Listed::Short => 0,
-    }
-}
-
-// Most listings are no longer; those that are have the rest printed behind it.
+// Most listings and values are no longer; those that are have the rest printed behind it.
 const FIRST: usize = 4096;
 
 struct Lent {
@@ -184,23 +159,34 @@ struct Lent {
 }
 
 thread_local! {
-    // One listing after another is made in it: what storage held before a call does not matter, so none is made and cleared for each.
+    // One listing or run after another is made in it: what storage held before a call does not matter, so none is made and cleared for each.
     static LENT: RefCell<Lent> = RefCell::new(lent());
 }
 
 fn lent() -> Lent {
-    let (work, answer) = list_lengths();
+    let ((list_work, list_answer), (run_work, run_answer)) = (list_lengths(), run_lengths());
+    let (work, answer) = (list_work.max(run_work), list_answer.max(run_answer));
     Lent { work: vec![0; work], answer: vec![0; answer], page: vec![0; FIRST] }
 }
 
-/// The listing of a program and a job.
+/// The listing of a program and a job, whatever it came to.
+///
+/// ```
+/// use raugvite::{list, Listed, Stop};
+///
+/// let program = b"(define dub [e.x] (cons e.x 'K))";
+/// let listing = list(program, b"(job (in ?e1) (out ?e2) (neq) (steps 1) (walk 0) (table 1))");
+/// assert_eq!(listing.answer(), Listed::Stopped { stop: Stop::Transitions, lines: 0, transitions: 0 });
+/// assert!(!listing.is_whole());
+/// assert_eq!(listing.whole_lines(), None);
+/// ```
 pub fn list(program: &[u8], job: &[u8]) -> Listing {
     LENT.with_borrow_mut(|Lent { work, answer, page }| {
         let (said, bytes) = list_print_in(program, job, work, answer, page);
         let text = page[..bytes].to_vec();
         Listing {
             answer: said,
-            lines: match lines_in(said) {
+            lines: match said.lines_found() {
                 0 => Vec::new(),
                 count => cells::lines(answer, count, &symbols::words(program, job)),
             },
@@ -209,14 +195,41 @@ pub fn list(program: &[u8], job: &[u8]) -> Listing {
     })
 }
 
-/// The program run forwards on the job's inputs.
+/// The listing of a program and a job, or the refusal of a text. The listing is whole, cut or stopped.
+pub fn try_list(program: &[u8], job: &[u8]) -> Result<Listing, Refusal> {
+    list(program, job).into_result()
+}
+
+/// The whole listing of a program and a job, or why there is none.
+pub fn list_whole(program: &[u8], job: &[u8]) -> Result<Whole, NotWhole> {
+    list(program, job).into_whole()
+}
+
+/// The program run forwards on the job's inputs, whatever it came to.
+///
+/// ```
+/// let program = b"(define append [e.a e.b] (if (cons? e.a e.h e.t a.n) (cons e.h e.b) e.b))";
+/// let run = raugvite::run(program, b"(job (in (cons 'A 'nil) (cons 'B 'nil)) (out 'A) (neq) (steps 9) (walk 1) (table 1))");
+/// assert_eq!(run.to_string(), "value 2 (cons 'A (cons 'B 'nil))");
+/// assert_eq!(format!("{:#}", run.value().unwrap()), "'A:'B:'nil");
+/// ```
 pub fn run(program: &[u8], job: &[u8]) -> Run {
-    let (w, a) = run_lengths();
-    let (mut work, mut answer) = (vec![0; w], vec![0; a]);
-    let said = run_in(program, job, &mut work, &mut answer);
-    let value = match said {
-        Ran::Value { length, .. } => cells::trees(&answer[..length], &symbols::words(program, job)).pop(),
-        _ => None,
-    };
-    Run { answer: said, value, text: print_run(program, job, said, &answer) }
+    LENT.with_borrow_mut(|Lent { work, answer, page }| {
+        let said = run_in(program, job, work, answer);
+        let bytes = sys::print_run(program, job, ran_numbers(said), answer, 0, page);
+        let text = page[..bytes].to_vec();
+        Run {
+            answer: said,
+            value: match said {
+                Ran::Value { length, .. } => cells::trees(&answer[..length], &symbols::words(program, job)).pop(),
+                _ => None,
+            },
+            text: if bytes < FIRST { text } else { print_run_on(program, job, said, answer, text) },
+        }
+    })
+}
+
+/// The program run forwards on the job's inputs, or the refusal of a text.
+pub fn try_run(program: &[u8], job: &[u8]) -> Result<Run, Refusal> {
+    run(program, job).into_result()
 }

@@ -9,6 +9,7 @@ macro_rules! lengths {
                 fn $work() -> usize;
                 fn $answer() -> usize;
             }
+            // SAFETY: they take nothing and read nothing.
             unsafe { ($work(), $answer()) }
         }
     };
@@ -36,6 +37,7 @@ macro_rules! entry {
             let mut said = [0usize; $said];
             let (p, j) = (program.as_ptr(), job.as_ptr());
             let (w, a, s) = (work.as_mut_ptr(), answer.as_mut_ptr(), said.as_mut_ptr());
+            // SAFETY: each pointer comes with the length of its slice, which it is aligned for; slices that are written overlap no other.
             let number = unsafe { $function(p, program.len(), j, job.len(), w, work.len(), a, answer.len(), s, said.len() $(, $page.as_mut_ptr(), $page.len())?) };
             (number, said)
         }
@@ -64,6 +66,7 @@ macro_rules! text {
             }
             let (number, said) = answer;
             let (p, j, s, c, o) = (program.as_ptr(), job.as_ptr(), said.as_ptr(), cells.as_ptr(), out.as_mut_ptr());
+            // SAFETY: each pointer comes with the length of its slice, which it is aligned for; the one that is written overlaps no other.
             unsafe { $function(p, program.len(), j, job.len(), number, s, said.len(), c, cells.len(), from, o, out.len()) }
         }
     };

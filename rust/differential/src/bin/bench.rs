@@ -1,7 +1,9 @@
 //! The benchmark texts on the resolver and on the implementation written apart from it.
 //!
-//!     bench                     the whole table: bench/ and bench/adverse/, a long program read, a path of 40, 100 and 300 steps
-//!     bench FOLDER [ROUNDS]     the texts NAME.tsg, NAME.job of FOLDER; of a folder with this name the whole table
+//! ```text
+//! bench                     the whole table: bench/ and bench/adverse/, a long program read, a path of 40, 100 and 300 steps
+//! bench FOLDER [ROUNDS]     the texts NAME.tsg, NAME.job of FOLDER; of a folder with this name the whole table
+//! ```
 //!
 //! Both list each pair of texts in turn, ROUNDS times or for two seconds, in one process; printed is the first line, the middle time of each, the
 //! resolver's time for one transition, and the ratio, which is what to compare: times differ from machine to machine.
@@ -80,7 +82,7 @@ fn compare(t: &Texts, rounds: usize) {
     let (mut line, mut count) = (String::new(), 0.0);
     let began = Instant::now();
     while ours.is_empty() || (ours.len() < rounds && began.elapsed().as_secs() < 2) {
-        let (a, mine) = timed(|| raugvite::list(&t.program, &t.job).text);
+        let (a, mine) = timed(|| raugvite::list(&t.program, &t.job).into_text());
         let (b, other) = timed(|| reference::print_listing(&reference::list_texts(&t.program, &t.job)));
         assert!(mine == other, "the listings of {} differ", t.name);
         ours.push(a);

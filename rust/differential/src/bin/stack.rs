@@ -1,7 +1,9 @@
 //! How much stack the entries take, on the texts of each kind that take the most.
 //!
-//!     stack [KB]     every entry on every text, in a thread of KB kilobytes (512): ends 'N passed, M failed'
-//!     stack least    the least stack for each text, in kilobytes
+//! ```text
+//! stack [KB]     every entry on every text, in a thread of KB kilobytes (512): ends 'N passed, M failed'
+//! stack least    the least stack for each text, in kilobytes
+//! ```
 //!
 //! A call that finds no room ends its process, so each one has a process of its own.
 use raugvite::Listed;
@@ -89,11 +91,11 @@ fn call(entry: &str, texts: &Case) {
     let (program, job) = (texts.program.as_bytes(), texts.job.as_bytes());
     let (mut work, mut answer) = (vec![0; 8194], vec![0; 17408]);
     match entry {
-        "list" => drop(raugvite::list_in(program, job, &mut work, &mut answer)),
-        "list_print" => drop(raugvite::list_print_in(program, job, &mut work, &mut answer, &mut [0; 64])),
-        "run" => drop(raugvite::run_in(program, job, &mut work, &mut answer)),
-        "print_list" => drop(raugvite::print_list(program, job, Listed::Whole { lines: 2, count: 2 }, &answer)),
-        _ => drop(raugvite::print_run(program, job, raugvite::Ran::Value { steps: 1, length: 1 }, &answer)),
+        "list" => _ = raugvite::list_in(program, job, &mut work, &mut answer),
+        "list_print" => _ = raugvite::list_print_in(program, job, &mut work, &mut answer, &mut [0; 64]),
+        "run" => _ = raugvite::run_in(program, job, &mut work, &mut answer),
+        "print_list" => _ = raugvite::print_list(program, job, Listed::Whole { lines: 2, transitions: 2 }, &answer),
+        _ => _ = raugvite::print_run(program, job, raugvite::Ran::Value { steps: 1, length: 1 }, &answer),
     }
 }
 

@@ -10,12 +10,13 @@ use Rattle.pages.proofs.files.read_whole.Lts as lts
 use Rattle.io.proofs.count.Reads as count-reads
 use Rattle.libc.proofs.read.Reads as read-reads
 use Rattle.os.proofs.errno.Reads as errno-reads
+use Rattle.os.proofs.fail.Reads as fail-reads
 
 abbrev Inv-loop : tie.InvT-loop
-Inv-loop fd buf₀ done₀ reads₀ buf done reads = (done ≤ length buf) × (length buf ≡ length buf₀)
+Inv-loop fd path buf₀ done₀ reads₀ buf done reads = (done ≤ length buf) × (length buf ≡ length buf₀)
 
 abbrev μ-loop : tie.MeasureT-loop
-μ-loop fd buf₀ done₀ reads₀ buf done reads = 1000000 - reads
+μ-loop fd path buf₀ done₀ reads₀ buf done reads = 1000000 - reads
 
 loop-holds : tie.Need-loop-holds Inv-loop μ-loop
 loop-holds c = search needs
@@ -55,6 +56,9 @@ loop-less c = search needs
 
 loop-again : tie.Need-loop-again Inv-loop μ-loop
 loop-again c = search needs
+
+fail-requires : tie.Need-fail-requires Inv-loop μ-loop
+fail-requires c κs = search needs
 
 same-length-3 : tie.Need-same-length-3 Inv-loop μ-loop
 same-length-3 c = search needs
@@ -99,6 +103,7 @@ read-whole-spec =
     errno-requires
     loop-less
     loop-again
+    fail-requires
     same-length-3
     returns-3
     count-requires

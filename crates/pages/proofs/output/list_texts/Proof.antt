@@ -35,7 +35,7 @@ returns : tie.Need-returns
 returns c =
     let a = c .before .before .before .before .before .before .before .before .before .before .before .before .before .before .before .before .args in
     let w = c .before .before .before .before .before .before .before .before .list-first .ensures .0 .0 in
-    taken-text (λ cells answer. listedText (a .program .now) (a .job .now) cells answer) (w .0) (w .2) (c .before .write-list .ensures)
+    (w .0, taken-text (λ cells answer. listedText (a .program .now) (a .job .now) cells answer) (w .0) (w .2) (c .before .write-list .ensures))
 
 pub list-texts-spec : {M : Type 1} → statement M
 list-texts-spec =

@@ -25,7 +25,7 @@ returns : tie.Need-returns
 returns c =
     let a = c .before .before .before .before .before .before .before .before .before .before .before .before .args in
     let w = c .before .before .before .before .before .before .run .ensures .0 in
-    taken-text (λ cells answer. ranText (a .program .now) (a .job .now) cells answer) (w .0) (w .2) (c .before .write-run .ensures)
+    (w .0, taken-text (λ cells answer. ranText (a .program .now) (a .job .now) cells answer) (w .0) (w .2) (c .before .write-run .ensures))
 
 pub run-texts-spec : {M : Type 1} → statement M
 run-texts-spec =

@@ -1,11 +1,11 @@
--- The measure is what is left of the first word.
 use Prim.Native.Nat.{_-_}
 use lib.ListN.{length}
 use borrow.Author.Needs.{needs}
-use Rattle.ura.proofs.arguments.alike.Statement.{statement}
-use Rattle.ura.proofs.arguments.alike.Tie as tie
-use Rattle.ura.proofs.arguments.alike.Reads as reads
-use Rattle.ura.proofs.arguments.alike.Lts as lts
+use Rattle.ura.proofs.places.alike.Statement.{statement}
+use Rattle.ura.proofs.places.alike.Tie as tie
+use Rattle.ura.proofs.places.alike.Reads as reads
+use Rattle.ura.proofs.places.alike.Lts as lts
+use Rattle.cells.proofs.cell.byte.Reads as byte-reads
 
 abbrev Inv-loop : tie.InvT-loop
 Inv-loop a b i₀ i = Unit {0}
@@ -19,11 +19,11 @@ returns c = search needs
 loop-holds : tie.Need-loop-holds Inv-loop μ-loop
 loop-holds c = search needs
 
-shared-slice-read-if3 : tie.Need-shared-slice-read-if3 Inv-loop μ-loop
-shared-slice-read-if3 c = search needs
+shared-slice-read-if2 : tie.Need-shared-slice-read-if2 Inv-loop μ-loop
+shared-slice-read-if2 c = search needs
 
-shared-slice-read-if3-2 : tie.Need-shared-slice-read-if3-2 Inv-loop μ-loop
-shared-slice-read-if3-2 c = search needs
+byte-requires : tie.Need-byte-requires Inv-loop μ-loop
+byte-requires c κs = search needs
 
 returns-2 : tie.Need-returns-2 Inv-loop μ-loop
 returns-2 c = search needs
@@ -48,8 +48,8 @@ alike-spec =
     μ-loop
     returns
     loop-holds
-    shared-slice-read-if3
-    shared-slice-read-if3-2
+    shared-slice-read-if2
+    byte-requires
     returns-2
     add-i
     loop-less

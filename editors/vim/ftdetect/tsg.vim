@@ -1,0 +1,1 @@
+autocmd BufNewFile,BufRead *.tsg,*.job setfiletype tsg
