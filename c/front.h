@@ -12,7 +12,7 @@ enum status {
   DONE = 0,     /* whole; of a run: a value */
   CUT = 1,      /* cut; of a run: no end within the job's steps */
   STOPPED = 2,  /* 21 to 23 */
-  REFUSED = 3,  /* 1 to 12 and 20 */
+  REFUSED = 3,  /* 1 to 13 and 20 */
   FAILED = 4    /* wrong words on the command line, a file that cannot be read, output that cannot be written */
 };
 

@@ -19,6 +19,7 @@ const char *raugvite_meaning(size_t number) {
       [10] = "the job's inputs are unlike main's parameters in number or kind, or one has a variable in a run",
       [11] = "this side of a non-equality is no atom, or its variable stands in neither input nor output",
       [12] = "the number is too large: steps 1000, walk 1000000, table 256 are the most",
+      [13] = "this name is in reach already: a cons? binds new names alone",
       [20] = "the storage that was lent is too short",
       [21] = "a configuration has over 4096 nodes",
       [22] = "the listing has more lines than the job's table, or over 16384 nodes in them",

@@ -113,7 +113,7 @@ static void add_help(struct text *text) {
   for (size_t i = 0; i < COMMAND_COUNT; i++) add_command(text, &COMMANDS[i]);
   text_put(text, "\nA file - is standard input; -- ends the options. A file that cannot be read counts as empty.\n"
                  "Exit status: 0 whole, or a run's value; 1 cut, or no value within the steps; 2 stopped by 21 to 23;\n"
-                 "3 refused by 1 to 12 or 20; 4 wrong words, a file that cannot be read, output that cannot be written.\n");
+                 "3 refused by 1 to 13 or 20; 4 wrong words, a file that cannot be read, output that cannot be written.\n");
 }
 
 static void add_numbers(struct text *text) {

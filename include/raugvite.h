@@ -37,9 +37,9 @@ size_t raugvite_list_answer(void);
 size_t raugvite_run_work(void);
 size_t raugvite_run_answer(void);
 
-/* The listing of a program and a job: returns 0 where it is whole or cut, 21 to 23 where it was stopped, 1 to 12 where a text is refused, 20
+/* The listing of a program and a job: returns 0 where it is whole or cut, 21 to 23 where it was stopped, 1 to 13 where a text is refused, 20
  * where `work` or `answer` is too short. `said` takes the five numbers above as far as it is long, and is zero behind them. After 0 and
- * 21 to 23 the lines stand in `answer`, zeros behind them; after 1 to 12 `answer` is as it was. `work` is zero after each number but 20,
+ * 21 to 23 the lines stand in `answer`, zeros behind them; after 1 to 13 `answer` is as it was. `work` is zero after each number but 20,
  * which touches nothing: neither `work` nor `answer` nor `said`. */
 size_t raugvite_list(const uint8_t *program, size_t program_length, const uint8_t *job, size_t job_length, uint16_t *work, size_t work_length,
                      uint16_t *answer, size_t answer_length, size_t *said, size_t said_length);
@@ -51,7 +51,7 @@ size_t raugvite_list_print(const uint8_t *program, size_t program_length, const 
                            uint16_t *answer, size_t answer_length, size_t *said, size_t said_length, uint8_t *out, size_t out_length);
 
 /* As raugvite_list, for a run of the program on the job's inputs: returns 0 for a value and where there is none within the job's steps, which has
- * length 0; 21 over 4,096 nodes; 1 to 12 and 20 as above. `said` takes letter, offset, steps and length. After a value its cells stand in
+ * length 0; 21 over 4,096 nodes; 1 to 13 and 20 as above. `said` takes letter, offset, steps and length. After a value its cells stand in
  * `answer`, zeros behind them; after 21 and where there is none `answer` is zero. */
 size_t raugvite_run(const uint8_t *program, size_t program_length, const uint8_t *job, size_t job_length, uint16_t *work, size_t work_length,
                     uint16_t *answer, size_t answer_length, size_t *said, size_t said_length);

@@ -22,7 +22,7 @@ const char *raugvite_version(void);
 enum {
   /* No printed text of a listing has more bytes, so that `out` of raugvite_list_print, lent once with this length, takes all of it:
    *
-   *   first line   "stop21 256 1000000" and its line feed, or "refused p 12 32768" and its line feed: at most                           19
+   *   first line   "stop21 256 1000000" and its line feed, or "refused p 13 32760" and its line feed: at most                           19
    *   each line    its number, at most 3 digits, a blank, its steps, at most 4, a line feed: 9, of 256 lines                         2,304
    *   each node    24 at most, of 16,384 in the lines together                                                                     393,216
    *
@@ -41,7 +41,7 @@ enum {
   RAUGVITE_NAME = 16
 };
 
-/* What a number means that raugvite_list or raugvite_run returns, as a sentence without a full stop: 1 to 12 and 20 to 23; NULL for each other. */
+/* What a number means that raugvite_list or raugvite_run returns, as a sentence without a full stop: 1 to 13 and 20 to 23; NULL for each other. */
 const char *raugvite_meaning(size_t number);
 
 /* Where an offset stands in a text: line and column from 1, the column in bytes, and the offset of the line's first byte. An offset

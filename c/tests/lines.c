@@ -163,7 +163,7 @@ static size_t try_random(void) {
 
 static void try_meanings(void) {
   for (size_t number = 0; number < 40; number++) {
-    int has = (number >= 1 && number <= 12) || (number >= 20 && number <= 23);
+    int has = (number >= 1 && number <= 13) || (number >= 20 && number <= 23);
     expect("a meaning", (raugvite_meaning(number) != NULL) == has);
   }
   expect("no meaning", raugvite_meaning(SIZE_MAX) == NULL);

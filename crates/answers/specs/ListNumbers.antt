@@ -1,4 +1,4 @@
--- 01's number and values for each case of what `list` answers.
+-- The number and values of each case of what `list` answers (01, "From the input", "From the state").
 use Prim.Native.Nat.{ℕ, _≤_}
 use mathlib.Core.Bool.{cond}
 use mathlib.Core.List.{List, [], _∷_}
@@ -27,7 +27,7 @@ wordCut Stop21 = 0
 wordCut Stop22 = 0
 wordCut Stop23 = 0
 
--- "From the input (number and byte offset, ..)": 1 to 12; "20 lent storage shorter than its least length"
+-- "From the input (number and byte offset, ..)": 1 to 12, and 13 (02, request 1); "20 lent storage shorter than its least length"
 abbrev pub numberOf : Answer → ℕ
 numberOf (Listed word lines count) = wordNumber word
 numberOf (Program number offset) = number
@@ -87,9 +87,9 @@ answerFrom number said =
     (cond (eqb (getD said 0 0) 106) (Job number (getD said 1 0))
     (Listed (wordFrom number (getD said 2 0)) (getD said 3 0) (getD said 4 0))))
 
--- what `list` can answer: "From the input" are 1 to 12
+-- what `list` can answer: a text is refused with 1 to 13
 abbrev pub Numbered : Answer → Type 0
 Numbered (Listed word lines count) = Unit {0}
-Numbered (Program number offset) = (1 ≤ number) × (number ≤ 12)
-Numbered (Job number offset) = (1 ≤ number) × (number ≤ 12)
+Numbered (Program number offset) = (1 ≤ number) × (number ≤ 13)
+Numbered (Job number offset) = (1 ≤ number) × (number ≤ 13)
 Numbered Short = Unit {0}

@@ -1,6 +1,5 @@
-// What the two entries answer, and 01's number and values for each case; what the text of a listing begins with. Nothing here knows the texts
-// or the walk.
+// What `list` answers, with the number and values of each case (01, "From the input", "From the state"); what the text of a listing begins with. Nothing here
+// knows the texts or the walk.
 pub mod heading;
+pub mod letters;
 pub mod list;
-mod numbers;
-pub mod run;

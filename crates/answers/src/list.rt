@@ -1,15 +1,11 @@
-// What the listing of two texts answers, and its numbers.
-use crate::numbers::JOB;
-use crate::numbers::NEITHER;
-use crate::numbers::PROGRAM;
-use crate::numbers::SHORT;
-use crate::numbers::number_at;
-use crate::numbers::write_numbers;
+// What the listing of two texts answers, and its number and values.
+use crate::letters::JOB;
+use crate::letters::NEITHER;
+use crate::letters::PROGRAM;
+use crate::letters::SHORT;
 ghost use mathlib.Core.Path.{_≡_};
-ghost use mathlib.Core.List.{[], _∷_, _++_};
 ghost use Rattle.answers.specs.ListEnding.{unstoppedAs};
-ghost use Rattle.answers.specs.Numbers.{saidAfter};
-ghost use Rattle.answers.specs.ListNumbers.{wordNumber, wordCut, numberOf, letterOf, offsetOf, cutOf, linesOf, transitionsOf, saidOf, wordFrom, answerFrom};
+ghost use Rattle.answers.specs.ListNumbers.{wordNumber, wordCut, numberOf, letterOf, offsetOf, cutOf, linesOf, transitionsOf};
 
 // The word of the first line.
 pub enum Word {
@@ -20,7 +16,7 @@ pub enum Word {
     Stop23,
 }
 
-// The listing's first word, how many lines stand in the answer storage and how many transitions were made; the refusal of a text (1 to 12)
+// The listing's first word, how many lines stand in the answer storage and how many transitions were made; the refusal of a text (1 to 13)
 // with its offset; 20.
 pub enum Answer {
     Listed {
@@ -73,7 +69,7 @@ fn word_cut(word: Word) -> usize
     }
 }
 
-// 01's number: 1 to 12 of a refused text, 20, 21 to 23; whole and cut have none.
+// The number (01, "From the input", "From the state"): 1 to 13 of a refused text, 20, 21 to 23; whole and cut have none.
 pub fn number_of(a: Answer) -> usize
     ensures { λ r. ⌜ r ≡ numberOf a ⌝ }
 {
@@ -191,68 +187,4 @@ pub fn transitions_of(a: Answer) -> usize
         } => 0,
         Answer::Short => 0,
     }
-}
-
-// 01's number of the answer, and in `said` its letter, offset, cut, lines and transitions.
-pub fn tell(a: Answer, said: &mut [usize]) -> usize
-    ensures { λ r. ⌜ (r ≡ numberOf a) × (now (said .exit) ≡ saidAfter (numberOf a) (saidOf a) (now (said .entry))) ⌝ }
-{
-    let number = number_of(a);
-    let letter = letter_of(a);
-    let offset = offset_of(a);
-    let cut = cut_of(a);
-    let lines = lines_of(a);
-    let count = transitions_of(a);
-    write_numbers(number, &[letter, offset, cut, lines, count], said);
-    number
-}
-
-// The same, with the number of bytes that were printed as the sixth.
-pub fn tell_printed(a: Answer, bytes: usize, said: &mut [usize]) -> usize
-    ensures { λ r. ⌜ (r ≡ numberOf a) × (now (said .exit) ≡ saidAfter (numberOf a) (saidOf a ++ (bytes ∷ [])) (now (said .entry))) ⌝ }
-{
-    let number = number_of(a);
-    let letter = letter_of(a);
-    let offset = offset_of(a);
-    let cut = cut_of(a);
-    let lines = lines_of(a);
-    let count = transitions_of(a);
-    write_numbers(number, &[letter, offset, cut, lines, count, bytes], said);
-    number
-}
-
-fn word_from(number: usize, cut: usize) -> Word
-    ensures { λ r. ⌜ r ≡ wordFrom number cut ⌝ }
-{
-    if number == 21 {
-        return Word::Stop21;
-    }
-    if number == 22 {
-        return Word::Stop22;
-    }
-    if number == 23 {
-        return Word::Stop23;
-    }
-    unstopped(cut == 1)
-}
-
-// The answer that was told by this number and these numbers; 20 has none.
-pub fn answer_from(number: usize, said: &[usize]) -> Answer
-    ensures { λ r. ⌜ r ≡ answerFrom number (now (said .entry)) ⌝ }
-{
-    if number == SHORT {
-        return Answer::Short;
-    }
-    let letter = number_at(said, 0);
-    let offset = number_at(said, 1);
-    if letter == PROGRAM {
-        return Answer::Program { number, offset };
-    }
-    if letter == JOB {
-        return Answer::Job { number, offset };
-    }
-    let word = word_from(number, number_at(said, 2));
-    let lines = number_at(said, 3);
-    let count = number_at(said, 4);
-    Answer::Listed { word, lines, count }
 }

@@ -1,16 +1,16 @@
--- What was told gives the answer back: a text that is refused has one of 01's numbers, and a value has a node. And what is demanded of an answer.
+-- What was told gives the answer back: a text that is refused has one of the numbers of 01, "From the input", and a value has a node. And what is demanded of an answer.
 use Prim.Native.Nat.{ℕ}
 use mathlib.Core.Path.{_≡_, ap, subst, _∙_}
 use mathlib.Core.List.{List, _++_}
 use Rattle.language.specs.Source.{SProg, SJob, prog, class}
 use Rattle.semantics.specs.Answer.{limits, inputs}
-use Rattle.answers.specs.Numbers.{saidAfter}
+use Rattle.telling.specs.Numbers.{saidAfter}
 use Rattle.answers.specs.ListNumbers as lists
-use Rattle.answers.specs.RunNumbers as runs
+use Rattle.run_answers.specs.RunNumbers as runs
 use Rattle.answers.specs.declared.list.Answer.{Answer as ListAnswer}
-use Rattle.answers.specs.declared.run.Answer.{Answer as RunAnswer}
-use Rattle.answers.proofs.ListBack.{list-back}
-use Rattle.answers.proofs.RunBack.{run-back}
+use Rattle.run_answers.specs.declared.run.Answer.{Answer as RunAnswer}
+use Rattle.telling.proofs.ListBack.{list-back}
+use Rattle.telling.proofs.RunBack.{run-back}
 use Rattle.resolve.specs.ListAnswer.{listLeft}
 use Rattle.resolve.specs.RunAnswer.{runLeft}
 use Rattle.resolve.specs.ListDemand.{Answered, StoredListing}

@@ -4,9 +4,9 @@ use mathlib.Core.Path.{_≡_}
 use mathlib.Core.Bool.{false}
 use mathlib.Core.List.{List, _++_}
 use lib.ListN.{length}
-use Rattle.answers.specs.Numbers.{saidAfter}
+use Rattle.telling.specs.Numbers.{saidAfter}
 use Rattle.answers.specs.ListNumbers as lists
-use Rattle.answers.specs.RunNumbers as runs
+use Rattle.run_answers.specs.RunNumbers as runs
 use Rattle.resolve.specs.ListAnswer as listed
 use Rattle.resolve.specs.RunAnswer as ran
 

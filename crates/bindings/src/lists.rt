@@ -1,10 +1,10 @@
 // The listing of two texts, its print, and both at once.
-use answers::list::answer_from;
-use answers::list::tell;
-use answers::list::tell_printed;
 use print::first::list_first;
 use print::list::print_list;
 use resolve::list;
+use telling::list::answer_from;
+use telling::list::tell;
+use telling::list::tell_printed;
 ghost use mathlib.Core.Path.{_≡_};
 ghost use mathlib.Core.Bool.{false};
 ghost use mathlib.Core.List.{[], _∷_, _++_};
@@ -19,11 +19,11 @@ ghost use Rattle.resolve.specs.ListAnswer.{tooShort, listLeft};
 ghost use Rattle.resolve.specs.ListDemand.{Answered, StoredListing};
 ghost use Rattle.window.specs.Windows.{windowed};
 ghost use Rattle.print.specs.twins.ListedText.{listedText};
-ghost use Rattle.answers.specs.Numbers.{saidAfter};
+ghost use Rattle.telling.specs.Numbers.{saidAfter};
 ghost use Rattle.answers.specs.ListNumbers.{numberOf, saidOf, answerFrom};
 ghost use Rattle.bindings.specs.Told.{ListTold};
 
-// `resolve::list`: 01's number of its answer, and in `said` the letter, the offset, 1 for cut, the lines and the transitions.
+// `resolve::list`: the number of its answer (01, "From the input", "From the state"), and in `said` the letter, the offset, 1 for cut, the lines and the transitions.
 #[no_mangle]
 pub extern "C" fn raugvite_list(
     program: &[u8],

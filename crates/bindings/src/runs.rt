@@ -1,8 +1,8 @@
 // A run of two texts, and its print.
-use answers::run::answer_from;
-use answers::run::tell;
 use print::ran::print_run;
 use resolve::run;
+use telling::run::answer_from;
+use telling::run::tell;
 ghost use mathlib.Core.Path.{_≡_};
 ghost use Prim.Native.Nat.{_-_, min};
 ghost use lib.ListN.{length};
@@ -15,11 +15,11 @@ ghost use Rattle.resolve.specs.RunAnswer.{runLeft};
 ghost use Rattle.resolve.specs.RunDemand.{Answered, StoredRun};
 ghost use Rattle.window.specs.Windows.{windowed};
 ghost use Rattle.print.specs.twins.RanText.{ranText};
-ghost use Rattle.answers.specs.Numbers.{saidAfter};
-ghost use Rattle.answers.specs.RunNumbers.{numberOf, saidOf, answerFrom};
+ghost use Rattle.telling.specs.Numbers.{saidAfter};
+ghost use Rattle.run_answers.specs.RunNumbers.{numberOf, saidOf, answerFrom};
 ghost use Rattle.bindings.specs.Told.{RunTold};
 
-// `resolve::run`: 01's number of its answer, and in `said` the letter, the offset, the steps and the length.
+// `resolve::run`: the number of its answer (01, "From the input", "From the state"), and in `said` the letter, the offset, the steps and the length.
 #[no_mangle]
 pub extern "C" fn raugvite_run(
     program: &[u8],

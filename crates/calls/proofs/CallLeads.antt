@@ -16,7 +16,7 @@ use Rattle.expressions.specs.Restriction.{nodesRestriction}
 use Rattle.sets.proofs.CellLaws.{restrictionCells-nodes}
 use Rattle.language.specs.Program.{Term, call, Param, Prog, find}
 use Rattle.language.specs.Scope.{allInScope}
-use Rattle.language.specs.WellFormed.{fits, wellFormed}
+use Rattle.language.specs.WellFormed.{fits}
 use Rattle.semantics.specs.Environment.{bindParams}
 use Rattle.semantics.specs.Configuration.{ExpEnv, substOfEnv, state, withEnv, nodesState, Configuration}
 use Rattle.semantics.proofs.Scopes.{WellScoped, Covers, scoped-call}
@@ -54,7 +54,7 @@ call-parts : {p : Prog} {bodies : ℕ → ℕ} {code : List ℕ} {sc : List Para
     (j : ℕ) × (g < length p → linkAt code i ≡ link 3 (length (find p g .params)) (bodies g) (j + 2)) × ExpsLinked code sc (i + 4) ds j
 call-parts (callLinked a b) = (_, a, b)
 
-module _ (p : Prog) (bodies : ℕ → ℕ) (code : List ℕ) (linked : ProgramLinked p bodies code) (formed : wellFormed p ≡ true) (few : (f : ℕ) → f < length p → length (find p f .params) ≤ 16)
+module _ (p : Prog) (bodies : ℕ → ℕ) (code : List ℕ) (linked : ProgramLinked p bodies code) (few : (f : ℕ) → f < length p → length (find p f .params) ≤ 16)
     (h f q : List ℕ) (c : InCells) (K : Configuration) (x : Stands p bodies code h f q c K) (constants : Constants code h (c .used)) (size : nodesState (K .cr) ≤ 4097) (room : c .used + 8192 ≤ 65535) where
   abbrev σ : Substitution
   σ = substOfEnv (K .cr .con .env)
@@ -147,7 +147,7 @@ module _ (p : Prog) (bodies : ℕ → ℕ) (code : List ℕ) (linked : ProgramLi
 
     arrives : Called h f base (ends (K .cr)) ts c (bodies g) (calledTo code base c h f) → Arrives p bodies code h (c .used) (behind g ds) after
     arrives w =
-        let y = found-linked g linked formed defined in
+        let y = found-linked g linked defined in
         record {
           at = record { inputs = c .inputs; outputs = c .outputs; entries = base + length ts; used = w .now; neqs = c .neqs; place = bodies g; counter = c .counter };
           moved = w .on;

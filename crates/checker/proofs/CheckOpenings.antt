@@ -137,11 +137,13 @@ unfolding defsAt
 defs-more {k = zero} f key kind num at n ds = absurd (f refl)
 defs-more {k = suc k} f key kind num at n ds = rw (less k)
 
-pub bodies-none : {c j : ℕ} → c ≤ j → (key kind num at : ℕ → ℕ) (n : ℕ) (heads : List ℕ) (count : ℕ) → bodiesAt key kind num at n heads count (c - j) j ≡ Fine
+pub bodies-none : {c j : ℕ} → c ≤ j → (key kind num at : ℕ → ℕ) (n : ℕ) (heads : List ℕ) (count : ℕ) (v w : Verdict) →
+    bodiesAt key kind num at n heads count (c - j) j v w ≡ record { rebound = v; uses = w }
 unfolding bodiesAt
-bodies-none {c} {j} l key kind num at n heads count = rw (counted-out c j l)
+bodies-none {c} {j} l key kind num at n heads count v w = rw (counted-out c j l)
 
-pub bodies-more : {c j : ℕ} → j < c → (key kind num at : ℕ → ℕ) (n : ℕ) (heads : List ℕ) (count : ℕ) →
-    bodiesAt key kind num at n heads count (c - j) j ≡ first (bodyAt key kind num at n heads count (getD heads j 0)) (bodiesAt key kind num at n heads count (c - (j + 1)) (j + 1))
+pub bodies-more : {c j : ℕ} → j < c → (key kind num at : ℕ → ℕ) (n : ℕ) (heads : List ℕ) (count : ℕ) (v w : Verdict) →
+    bodiesAt key kind num at n heads count (c - j) j v w ≡
+    bodiesAt key kind num at n heads count (c - (j + 1)) (j + 1) (first v (bodyAt key kind num at n heads count (getD heads j 0) .rebound)) (first w (bodyAt key kind num at n heads count (getD heads j 0) .uses))
 unfolding bodiesAt
-bodies-more {c} {j} l key kind num at n heads count = rw (counted-on c j l)
+bodies-more {c} {j} l key kind num at n heads count v w = rw (counted-on c j l)

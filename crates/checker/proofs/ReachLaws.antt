@@ -2,7 +2,7 @@
 -- which the part before it left its own names (specs/twins/CheckAt.antt, Kept).
 use Prim.Native.Nat.{ℕ, zero, suc, _+_, _≤_, _<_}
 use mathlib.Core.Path.{_≡_, refl, ap, subst, _∙_, sym as inv}
-use mathlib.Core.Bool.{Bool, true, false, cond, not}
+use mathlib.Core.Bool.{Bool, true, false, cond}
 use mathlib.Core.List.{List}
 use native.Mathlib.Omega.{arith}
 use lib.Dec.{eqb, ltb}
@@ -14,7 +14,7 @@ use Rattle.language.specs.Tokens.{aname, tag, keyOf}
 use Rattle.checker.specs.declared.check.Verdict.{Verdict}
 use Rattle.checker.specs.declared.check.Walked.{Walked}
 use Rattle.checker.specs.declared.check.Names.{Names}
-use Rattle.checker.specs.twins.CheckAt.{Kept, Put, first, judge, walked, names, push, ahead, pick, pickTerm, isNamed, leafAt, pairAt, expAt, eaAt, argAt, argsAt, callAt, eqaAt, conspAt, ifAt, formAt, termAt}
+use Rattle.checker.specs.twins.CheckAt.{Kept, Put, names, push, ahead, pick, pickTerm, isNamed, bindingAt, branched, leafAt, pairAt, expAt, eaAt, argAt, argsAt, callAt, eqaAt, conspAt, ifAt, formAt, termAt}
 
 pub kept-all : (u : ℕ) (a : List ℕ) → Kept u a a
 kept-all u a = record { size = refl; same = λ j l. refl }
@@ -111,6 +111,11 @@ module _ (key kind num at : ℕ → ℕ) (n : ℕ) where
   leaf-alike : (sc td : Names) (i : ℕ) → Alike sc td → leafAt key kind num at n td i ≡ leafAt key kind num at n sc i
   leaf-alike sc td i h = rw (named-alike kind num sc td i h)
 
+  -- and so is what is found of the names that a `cons?` binds
+  binding-alike : (sc td : Names) (c : Walked) → Alike sc td → bindingAt key kind num at n td c ≡ bindingAt key kind num at n sc c
+  unfolding bindingAt
+  binding-alike sc td c h = rw (named-alike kind num sc td _ h, named-alike kind num sc td _ h, named-alike kind num sc td _ h)
+
   exp-alike : (room : ℕ) (sc td : Names) (i : ℕ) → Alike sc td → expAt key kind num at n room td i ≡ expAt key kind num at n room sc i
   unfolding expAt
   exp-alike zero sc td i h = leaf-alike sc td i h
@@ -147,7 +152,7 @@ module _ (key kind num at : ℕ → ℕ) (n : ℕ) where
     consp-alike : (again : Names → ℕ → Walked) → Sees again → (room : ℕ) (sc td : Names) (i : ℕ) → Alike sc td →
         conspAt key kind num at n heads count again room td i ≡ conspAt key kind num at n heads count again room sc i
     consp-alike again s room sc td i h =
-        rw (exp-alike room sc td _ h, s _ _ _ (push-alike _ _ _ (push-alike sc td _ h)), s _ _ _ (push-alike sc td _ h))
+        rw (exp-alike room sc td _ h, binding-alike sc td _ h, s _ _ _ (push-alike _ _ _ (push-alike sc td _ h)), s _ _ _ (push-alike sc td _ h))
 
     if-alike : (again : Names → ℕ → Walked) → Sees again → (room : ℕ) (sc td : Names) (i : ℕ) → Alike sc td →
         ifAt key kind num at n heads count again room td i ≡ ifAt key kind num at n heads count again room sc i
@@ -189,7 +194,7 @@ module _ (key kind num at : ℕ → ℕ) (n : ℕ) where
         Put a u (c .past) a1 v1 → Put a1 v1 t a2 v2 → h4 ≡ ahead n 4 (c .past) → s ≡ termAt key kind num at n heads count room (names a2 v2) h4 →
         Kept u a a3 → Put a3 u x a4 v3 → w ≡ termAt key kind num at n heads count room (names a4 v3) (s .past) →
         conspAt key kind num at n heads count (λ sc k. termAt key kind num at n heads count room sc k) room (names a u) i ≡
-        walked (ahead n 1 (w .past)) (first (judge (not (eqb (num (c .past)) (num t))) 6 (at t)) (first (s .names) (w .names))) (first (c .uses) (first (s .uses) (w .uses)))
+        branched (ahead n 1 (w .past)) (bindingAt key kind num at n (names a u) c) s w
     consp-found room i {x = x} {s = s} pi pc pt px p1 p2 ph ps k p3 pw =
         let w2 = pw ∙ ap (λ (sc : Names). termAt key kind num at n heads count room sc (s .past)) (p3 .is) ∙ term-put room x (s .past) k in
         rw (← pi, ← pc, ← pt, ← px, ← ph, ← (p1 .is), ← (p2 .is), ← ps, ← w2)

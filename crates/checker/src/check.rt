@@ -2,7 +2,7 @@
 ghost use mathlib.Core.Path.{_≡_};
 ghost use mathlib.Core.Bool.{_&&_, _||_, not};
 ghost use lib.ListN.{getD};
-ghost use Rattle.checker.specs.twins.CheckAt.{first, judge, called};
+ghost use Rattle.checker.specs.twins.CheckAt.{first, judge, called, branched};
 
 // What a check finds: nothing, or the first fault.
 pub enum Verdict {
@@ -10,10 +10,11 @@ pub enum Verdict {
     Fault { number: usize, offset: usize },
 }
 
-// What was walked over: the index past it, the first fault of 6, the first of 7, 8 and 9.
+// What was walked over: the index past it, the first fault of 6, the first of 13, the first of 7, 8 and 9.
 pub struct Walked {
     pub past: usize,
     pub names: Verdict,
+    pub rebound: Verdict,
     pub uses: Verdict,
 }
 
@@ -37,6 +38,12 @@ pub struct Defs {
     pub count: usize,
     pub past: usize,
     pub names: Verdict,
+}
+
+// The bodies of a program's definitions: the first fault of 13, the first of 7, 8 and 9.
+pub struct Bodies {
+    pub rebound: Verdict,
+    pub uses: Verdict,
 }
 
 // Of two faults the first.
@@ -66,7 +73,29 @@ pub fn called(past: usize, callee: Verdict, arguments: Verdict) -> Walked
     Walked {
         past: past,
         names: Verdict::Fine,
+        rebound: Verdict::Fine,
         uses: first(callee, arguments),
+    }
+}
+
+// What an `if` comes to, by what was found of its condition `c`, of its true branch `s` and of its false branch `u`, which stand in this order.
+pub fn branched(past: usize, c: Walked, s: Walked, u: Walked) -> Walked
+    ensures { λ r. ⌜ r ≡ branched past c s u ⌝ }
+{
+    let c_names = c.names;
+    let s_names = s.names;
+    let u_names = u.names;
+    let c_rebound = c.rebound;
+    let s_rebound = s.rebound;
+    let u_rebound = u.rebound;
+    let c_uses = c.uses;
+    let s_uses = s.uses;
+    let u_uses = u.uses;
+    Walked {
+        past: past,
+        names: first(c_names, first(s_names, u_names)),
+        rebound: first(c_rebound, first(s_rebound, u_rebound)),
+        uses: first(c_uses, first(s_uses, u_uses)),
     }
 }
 

@@ -1,4 +1,5 @@
-// The check of expressions by their tokens: 8 and 9 (01, "From the input"). `cells`, `used` of them, are the names in reach.
+// The check of expressions by their tokens: 8 and 9 (01, "From the input"), and of the names that a `cons?` binds: 6 and 13 (02, request 1).
+// `cells`, `used` of them, are the names in reach.
 use crate::check::Args;
 use crate::check::Verdict;
 use crate::check::Walked;
@@ -20,7 +21,7 @@ use words::keys::SYMBOL;
 ghost use mathlib.Core.Path.{_≡_};
 ghost use mathlib.Core.Bool.{true};
 ghost use Rattle.checker.specs.declared.check.Verdict.the-variants.{Fine};
-ghost use Rattle.checker.specs.twins.CheckStored.{sameName, isNamed, leafAt, expAt, pairAt, atomicAt, eaAt, argAt, argsAt};
+ghost use Rattle.checker.specs.twins.CheckStored.{sameName, isNamed, newAt, bindingAt, leafAt, expAt, pairAt, atomicAt, eaAt, argAt, argsAt};
 
 // "`e.x` and `a.x` are two variables."
 fn same_name(marks: &[u16], nums: &[u16], n: usize, i: usize, j: usize) -> bool
@@ -54,6 +55,51 @@ pub fn is_named(
     false
 }
 
+// "A name .. that a `cons?` binds may no longer be one already in reach": 13 at the name at `i` (02, request 1).
+fn new_name(
+    marks: &[u16],
+    nums: &[u16],
+    ats: &[u16],
+    n: usize,
+    cells: &[usize],
+    used: usize,
+    i: usize,
+) -> Verdict
+    ensures { λ r. ⌜ r ≡ newAt (now (marks .entry)) (now (nums .entry)) (now (ats .entry)) n (now (cells .entry)) used i ⌝ }
+{
+    let reached = is_named(marks, nums, n, cells, used, i);
+    judge(negated(reached), 13, offset(ats, n, i))
+}
+
+// What is found of a `cons?` whose e comes to `c` and ends before its three names: "6 .. equal names in one `cons?`", then 13.
+pub fn binding(
+    marks: &[u16],
+    nums: &[u16],
+    ats: &[u16],
+    n: usize,
+    cells: &[usize],
+    used: usize,
+    c: Walked,
+) -> Walked
+    ensures { λ r. ⌜ r ≡ bindingAt (now (marks .entry)) (now (nums .entry)) (now (ats .entry)) n (now (cells .entry)) used c ⌝ }
+{
+    let h = c.past;
+    let t = ahead(n, 1, h);
+    let x = ahead(n, 2, h);
+    let differ = negated(num(nums, n, h) == num(nums, n, t));
+    let twice = judge(differ, 6, offset(ats, n, t));
+    let head = new_name(marks, nums, ats, n, cells, used, h);
+    let tail = new_name(marks, nums, ats, n, cells, used, t);
+    let atom = new_name(marks, nums, ats, n, cells, used, x);
+    let u = c.uses;
+    Walked {
+        past: h,
+        names: twice,
+        rebound: first(head, first(tail, atom)),
+        uses: u,
+    }
+}
+
 // An e of one token: "9 variable not in reach".
 pub fn leaf(
     marks: &[u16],
@@ -71,6 +117,7 @@ pub fn leaf(
         return Walked {
             past: past,
             names: Verdict::Fine,
+            rebound: Verdict::Fine,
             uses: Verdict::Fine,
         };
     }
@@ -78,6 +125,7 @@ pub fn leaf(
     Walked {
         past: past,
         names: Verdict::Fine,
+        rebound: Verdict::Fine,
         uses: judge(reached, 9, offset(ats, n, i)),
     }
 }
@@ -108,6 +156,7 @@ pub fn exp(
         return Walked {
             past: ahead(n, 1, end),
             names: Verdict::Fine,
+            rebound: Verdict::Fine,
             uses: first(u, v),
         };
     }
@@ -136,6 +185,7 @@ pub fn pair(
     Walked {
         past: ahead(n, 1, end),
         names: Verdict::Fine,
+        rebound: Verdict::Fine,
         uses: first(u, v),
     }
 }
@@ -169,6 +219,7 @@ pub fn ea(
     Walked {
         past: end,
         names: Verdict::Fine,
+        rebound: Verdict::Fine,
         uses: first(v, u),
     }
 }

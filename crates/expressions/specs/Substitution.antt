@@ -5,7 +5,7 @@ use mathlib.Core.List.{List, [], _∷_}
 use lib.Dec.{eqb}
 use Rattle.expressions.specs.Expression.{Value, atom, cons, AtomicExp, sym, avar, Exp, atm, evar, pair}
 
--- A ground substitution, which 01 calls a filling: a value for each `?e`, an atom for each `?a`, "the same wherever the
+-- A ground substitution, which 01, "Sets, filling and splitting", calls a filling: a value for each `?e`, an atom for each `?a`, "the same wherever the
 -- variable stands, from all atoms and not only those of the texts".
 pub record GroundSubst : Type 0 where
   pub e : ℕ → Value

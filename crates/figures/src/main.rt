@@ -1,10 +1,10 @@
-// The figures of 001 and the cases of 01, run forwards and listed. It reads cases from standard input, three lines each,
+// The figures of 001 and the cases of 01, "Printing, and cases", run forwards and listed. It reads cases from standard input, three lines each,
 //
 //     # TITLE
 //     P: the program's text
 //     R: the job's text, for a run, or L: the job's text, for a listing
 //
-// and prints the title and what 01 has printed. The lent storages are full of garbage before each.
+// and prints the title and what is printed (01, "Printing, and cases"). The lent storages are full of garbage before each.
 use cells::part::part;
 use libc::STDIN_FILENO;
 use libc::STDOUT_FILENO;

@@ -2,7 +2,7 @@
 use Prim.Native.Nat.{ℕ, _+_, _≤_, _<_}
 use mathlib.Core.Path.{_≡_, refl, ap, subst, _∙_, sym as inv}
 use mathlib.Core.Bool.{Bool, true, false, cond}
-use mathlib.Core.List.{List, [], _∷_}
+use mathlib.Core.List.{List, [], _∷_, _++_}
 use mathlib.Core.Option.{Option, none, some}
 use native.Mathlib.Omega.{arith}
 use lib.Dec.{eqb}
@@ -13,7 +13,7 @@ use Rattle.expressions.specs.Contraction.{CRPair, contract}
 use Rattle.expressions.specs.Split.{splitAtomic}
 use Rattle.language.specs.Program.{eqa, consp, Term, call, conditional, result, Param, pe, pa, Prog, find, atomOf}
 use Rattle.language.specs.Scope.{Scope}
-use Rattle.semantics.specs.Environment.{lookup, updateE, updateA, bindParams}
+use Rattle.semantics.specs.Environment.{lookup, bindParams}
 use Rattle.semantics.specs.Figure4.{ValueEnv}
 use Rattle.semantics.specs.Evaluate.{groundOf, end, go, step}
 use Rattle.semantics.specs.Embedding.{embed}
@@ -26,12 +26,12 @@ use Rattle.semantics.proofs.Scopes.{Covers, WellScoped, scoped-call, scoped-con
 use Rattle.heap.specs.declared.configuration.Configuration.{Configuration as InCells}
 use Rattle.runs.proofs.RunLaws.{Below, below-self}
 use Rattle.linking.specs.twins.Code.{link, linkAt}
-use Rattle.linking.specs.twins.Linked.{placeIn, withName, ExpLinked, ExpsLinked, TermLinked, callLinked, sameLinked}
-use Rattle.linking.specs.twins.Places.{envOf, withValue}
+use Rattle.linking.specs.twins.Linked.{withName, ExpLinked, ExpsLinked, TermLinked, callLinked, sameLinked}
+use Rattle.linking.specs.twins.Places.{envOf}
 use Rattle.linking.specs.declared.code.Link.{Link}
-use Rattle.linking.proofs.PlaceLaws.{bound-e, bound-a, bound-arguments}
+use Rattle.linking.proofs.PlaceLaws.{bound-arguments}
 use Rattle.constants.proofs.ConstantLaws.{NoConstants, none-held}
-use Rattle.values.proofs.ValueLaws.{Typed, typed-length, Known}
+use Rattle.values.proofs.ValueLaws.{Typed, Known}
 use Rattle.values.proofs.StateLaws.{known-in-scope, all-known, Stands}
 use Rattle.values.proofs.PairLaws.{entries-few, fits-typed}
 use Rattle.values.proofs.BodyLaws.{found-linked}
@@ -41,7 +41,7 @@ use Rattle.atoms.proofs.TakeLaws.{same-successors}
 use Rattle.looking.specs.twins.Looking.{testAt, LookLeft, lookAt}
 use Rattle.looking.specs.declared.look.Tested.{Tested}
 use Rattle.looking.specs.declared.look.Tested.the-variants.{Atom, Pair, Large}
-use Rattle.pairs.proofs.NameLaws.{typed-with-e, typed-with-a}
+use Rattle.pairs.proofs.NameLaws.{typed-with-e, typed-with-a, env-with-a, env-with-parts}
 use Rattle.pairs.proofs.LookLaws.{TestAt, test-at, Looked, atomAt, variableAt, pairAt, largeAt}
 use Rattle.pairs.proofs.BranchLaws.{stands-look}
 use Rattle.tracing.specs.twins.Asking.{AskLeft, askedAt}
@@ -159,7 +159,7 @@ module _ (p : Prog) (bodies : ℕ → ℕ) (code : List ℕ) (ok : Accepted p bo
       let k = w .calls L s in
       let m : L ≡ K u τ = some-same (inv (ap (λ (z : Successors). wayTo z (w .by)) s) ∙ w .to) in
       let parts = call-parts (here (call g ds) e) in
-      let y = found-linked g (ok .linked) (ok .formed) (sc .0) in
+      let y = found-linked g (ok .linked) (sc .0) in
       let known = all-known (x .holds .typed) (wc .scope) (covered (wc .scope) (wc .covers)) ds (sc .2) in
       let second : linkAt code (c .place) .second ≡ bodies g = ap (λ (l : Link). l .second) (parts .1 (sc .0)) in
       let at-four : testAt c ≡ c .place + 4 = omega (arith, w .place) in
@@ -225,7 +225,7 @@ module _ (p : Prog) (bodies : ℕ → ℕ) (code : List ℕ) (ok : Accepted p bo
     sources-as a B ws i y = subst (λ (z : AskLeft). Sources code c (z .asked) f B (z .heap) ws) (inv asks-looked) (rw i y)
 
     -- on an atom
-    landing-atom : (y : AtomicExp) (B : ℕ) (a : Tested) → looked .answer ≡ a → SourcesOf a B (withValue (placeIn (pa n) (x .names)) (atm y) (x .holds .values)) →
+    landing-atom : (y : AtomicExp) (B : ℕ) (a : Tested) → looked .answer ≡ a → SourcesOf a B (x .holds .values ++ (atm y ∷ [])) →
         (b : Bool) (u : Term) (τ : ValueEnv) → wayTo (tracePair m k n s v (K t σ .cr) 1 (atm y)) b ≡ some (K u τ) → Landing b u τ
     landing-atom y B a i z true u τ q = let o : _≡_ {A = ℕ} 0 1 = cc in absurd (omega arith)
     landing-atom y B a i z false u τ q =
@@ -235,34 +235,29 @@ module _ (p : Prog) (bodies : ℕ → ℕ) (code : List ℕ) (ok : Accepted p bo
           names = withName (pa n) (x .names);
           past = T .end;
           term = rw (T .opens) (subst (λ (r : Term). TermLinked p bodies code (withName (pa n) (x .names)) (T .false-from) r (T .end)) (ap (λ (z : Configuration). z .term) l) (T .on-false));
-          values = withValue (placeIn (pa n) (x .names)) (atm y) (x .holds .values);
+          values = x .holds .values ++ (atm y ∷ []);
           typed = typed-with-a n y (x .holds .typed);
-          env = inv (ap (λ (z : Configuration). z .cr .con .env) l) ∙ ap (updateA n y) (x .holds .env) ∙ bound-a n (atm y) (x .names) (x .holds .values) (typed-length (x .holds .typed));
+          env = inv (ap (λ (z : Configuration). z .cr .con .env) l) ∙ env-with-a (x .holds) few n y (T .new-atom);
           B = B;
-          sources = sources-as a B (withValue (placeIn (pa n) (x .names)) (atm y) (x .holds .values)) i z;
+          sources = sources-as a B (x .holds .values ++ (atm y ∷ [])) i z;
         }
 
     -- on a pair
     abbrev parts : Exp → Exp → List Exp
-    parts a b = withValue (placeIn (pe k) (withName (pe m) (x .names))) b (withValue (placeIn (pe m) (x .names)) a (x .holds .values))
+    parts a b = (x .holds .values ++ (a ∷ [])) ++ (b ∷ [])
 
     landing-pair : (a b : Exp) (B : ℕ) (r : Tested) → looked .answer ≡ r → SourcesOf r B (parts a b) → (o : Bool) (u : Term) (τ : ValueEnv) → wayTo (tracePair m k n s v (K t σ .cr) 1 (pair a b)) o ≡ some (K u τ) → Landing o u τ
     landing-pair a b B r i z false u τ q = let o : _≡_ {A = ℕ} 0 1 = cc in absurd (omega arith)
     landing-pair a b B r i z true u τ q =
         let T = test-here in
         let l = some-same q in
-        let first = withName (pe m) (x .names) in
-        let ws = withValue (placeIn (pe m) (x .names)) a (x .holds .values) in
-        let t1 = typed-with-e m a (x .holds .typed) in
         record {
           names = withName (pe k) (withName (pe m) (x .names));
           past = T .false-from;
           term = rw (T .opens) (subst (λ (r : Term). TermLinked p bodies code (withName (pe k) (withName (pe m) (x .names))) (T .names-from + 4) r (T .false-from)) (ap (λ (z : Configuration). z .term) l) (T .on-true));
           values = parts a b;
-          typed = typed-with-e k b t1;
-          env =
-              inv (ap (λ (z : Configuration). z .cr .con .env) l) ∙ ap (λ (z : ExpEnv). updateE k b (updateE m a z)) (x .holds .env) ∙
-              ap (updateE k b) (bound-e m a (x .names) (x .holds .values) (typed-length (x .holds .typed))) ∙ bound-e k b (withName (pe m) (x .names)) ws (typed-length t1);
+          typed = typed-with-e k b (typed-with-e m a (x .holds .typed));
+          env = inv (ap (λ (z : Configuration). z .cr .con .env) l) ∙ env-with-parts (x .holds) few m k a b (T .new-head) (T .new-tail);
           B = B;
           sources = sources-as r B (parts a b) i z;
         }

@@ -1,83 +1,67 @@
 -- What gives the names of an end their values: the entries there are, the arguments of the call before it, what the `cons?` before it tests.
 use Prim.Native.Nat.{ℕ, zero, suc, _+_, _≤_, _<_}
-use mathlib.Core.Path.{_≡_, refl, ap, ap₂, subst, _∙_, sym as inv}
+use mathlib.Core.Path.{_≡_, refl, ap, subst, _∙_, sym as inv}
 use mathlib.Core.Bool.{Bool, true, false, cond}
 use mathlib.Core.List.{List, [], _∷_, _++_}
 use mathlib.Core.Logic.{inl, inr}
 use native.Mathlib.Omega.{arith}
-use native.Mathlib.Decide.{ℕ-discrete}
 use lib.Dec.{eqb, ltb}
-use lib.ListN.{length, getD, set, length-set, length-append, List·getD-append}
-use lib.Seq.{getD-set-same, getD-set-other, getD-at}
-use borrow.Author.Tests.{eq-eqb, ne-eqb, ltb-true, ltb-false}
+use lib.ListN.{length, getD, length-append, List·getD-append}
+use lib.Seq.{getD-at}
+use borrow.Author.Tests.{lt-ltb, le-ltb, ltb-true, ltb-false, eqb-true, eqb-false}
 use Rattle.expressions.specs.Expression.{AtomicExp, sym, Exp, atm, pair}
 use Rattle.expressions.specs.Substitution.{Substitution, apply, applyAll}
 use Rattle.expressions.specs.Contraction.{CRPair}
-use Rattle.language.specs.Program.{Term, Param, pe, pa, Prog}
+use Rattle.language.specs.Program.{Term, Param, Prog}
 use Rattle.semantics.specs.Configuration.{substOfEnv, state}
 use Rattle.heap.specs.declared.configuration.Configuration.{Configuration as InCells}
 use Rattle.runs.proofs.RunLaws.{Below}
 use Rattle.heap.proofs.HeapLaws.{Holds, holds-below}
 use Rattle.heap.proofs.FrameLaws.{Held, held-kept}
 use Rattle.linking.specs.twins.Code.{link, linkAt}
-use Rattle.linking.specs.twins.Linked.{placeIn, withName, ExpLinked, consLinked, ExpsLinked, noneLinked, moreLinked}
-use Rattle.linking.specs.twins.Places.{envOf, withValue}
-use Rattle.linking.specs.declared.code.Link.{Link}
+use Rattle.linking.specs.twins.Linked.{ExpLinked, consLinked, ExpsLinked, noneLinked, moreLinked}
+use Rattle.linking.specs.twins.Places.{envOf}
 use Rattle.constants.proofs.ConstantLaws.{NoConstants, none-held}
 use Rattle.values.specs.twins.Names.{namesFrom}
 use Rattle.values.specs.twins.Values.{ValueLeft, valueLeft, valueAt}
 use Rattle.values.specs.declared.value.Valued.the-variants.{At}
-use Rattle.values.proofs.ValueLaws.{typed-length, Known, AllKnown, valued-name}
+use Rattle.values.proofs.ValueLaws.{Known, AllKnown, valued-name}
 use Rattle.values.proofs.ValueLaws.{past-linked}
 use Rattle.values.proofs.RoomLaws.{value-outcome}
 use Rattle.values.proofs.RoomLaws as values
 use Rattle.values.proofs.StateLaws.{HoldsPair}
 use Rattle.looking.specs.twins.Looking.{testAt}
-use Rattle.looking.specs.declared.look.Tested.{Tested}
 use Rattle.looking.specs.declared.look.Tested.the-variants.{Atom, Pair, Large}
-use Rattle.pairs.proofs.NameLaws.{place-most, typed-with-e, names-held, entries-are}
-use Rattle.pairs.proofs.LookLaws.{TestAt, test-from, names-from-is}
+use Rattle.pairs.proofs.NameLaws.{names-held, entries-are}
+use Rattle.pairs.proofs.LookLaws.{TestAt, test-from}
 use Rattle.tracing.specs.declared.ask.Asked.the-variants.{End, Call, Same, Test}
-use Rattle.forward.specs.twins.Naming.{argumentFrom, bindersOf, ownAt, testedBy, testedNamed, namedAt}
-use Rattle.forward.specs.declared.named.Binders.{Binders}
+use Rattle.forward.specs.twins.Naming.{argumentFrom, namesIn, ownAt, partIndex, testedNamed, namedAt}
 use Rattle.forward.proofs.PutLaws.{Kept}
 use Rattle.forward.proofs.OutputLaws.{Source, Sources}
 
--- a value at a place, and at the others
-module _ (p : ℕ) (v : Exp) (ws : List Exp) (most : p ≤ length ws) (d : Exp) where
-  with-same : getD (withValue p v ws) p d ≡ v
-  with-same = go (ltb p (length ws)) refl
+-- a name in reach, or the one behind them
+module _ (B : ℕ) (h : List ℕ) (vs : List Exp) (q : ℕ) (u : ValueLeft) (own : q < length vs → Source B h (getD vs q (atm (sym 0))) u) where
+  last-source : (v : Exp) (w : ValueLeft) → q < length (vs ++ (v ∷ [])) → Source B h v w → Source B h (getD (vs ++ (v ∷ [])) q (atm (sym 0))) (cond (ltb q (length vs)) u w)
+  last-source v w l s = go (ltb q (length vs)) refl
     where
-      go : (b : Bool) → ltb p (length ws) ≡ b → getD (cond b (set ws p v) (ws ++ (v ∷ []))) p d ≡ v
-      go true e = getD-set-same ws p v d (ltb-true p (length ws) e)
-      go false e = let l = ltb-false p (length ws) e in getD-at ws v [] d p (omega arith)
+      go : (o : Bool) → ltb q (length vs) ≡ o → Source B h (getD (vs ++ (v ∷ [])) q (atm (sym 0))) (cond o u w)
+      go true e = let k = ltb-true q (length vs) e in rw (List·getD-append vs (v ∷ []) (atm (sym 0)) q k) (own k)
+      go false e = let k = ltb-false q (length vs) e in rw (getD-at vs v [] (atm (sym 0)) q (omega (arith, length-append vs (v ∷ [])))) s
 
-  with-other : (q : ℕ) → (q ≡ p → ⊥) → q < length (withValue p v ws) → (q < length ws) × (getD (withValue p v ws) q d ≡ getD ws q d)
-  with-other q n l = go (ltb p (length ws)) refl l
-    where
-      go : (b : Bool) → ltb p (length ws) ≡ b → q < length (cond b (set ws p v) (ws ++ (v ∷ []))) → (q < length ws) × (getD (cond b (set ws p v) (ws ++ (v ∷ []))) q d ≡ getD ws q d)
-      go true e l = (omega (arith, length-set ws p v), getD-set-other ws p q v d n)
-      go false e l =
-          let m = ltb-false p (length ws) e in
-          let o = length-append ws (v ∷ []) in
-          let k : q ≡ length ws → ⊥ = λ z. n (omega arith) in
-          let r : q < length ws = less (ℕ-discrete q (length ws)) k (omega arith) in
-          (r, List·getD-append ws (v ∷ []) d q r)
-        where
-          less : Dec (q ≡ length ws) → (q ≡ length ws → ⊥) → q < length ws + 1 → q < length ws
-          less (yes z) k m = absurd (k z)
-          less (no z) k m = omega arith
-
--- a name that is bound, or another
-bound-source : (B : ℕ) (h : List ℕ) (p : ℕ) (v : Exp) (ws : List Exp) → p ≤ length ws → (q : ℕ) → q < length (withValue p v ws) → (w u : ValueLeft) →
-    Source B h v w → (q < length ws → Source B h (getD ws q (atm (sym 0))) u) → Source B h (getD (withValue p v ws) q (atm (sym 0))) (cond (eqb q p) w u)
-bound-source B h p v ws most q l w u s t = go (ℕ-discrete q p)
+-- or one of the two behind them
+two-sources : (B : ℕ) (h : List ℕ) (vs : List Exp) (q : ℕ) (u : ValueLeft) → (q < length vs → Source B h (getD vs q (atm (sym 0))) u) → (a b : Exp) (w z : ValueLeft) → q < length ((vs ++ (a ∷ [])) ++ (b ∷ [])) →
+    Source B h a w → Source B h b z → Source B h (getD ((vs ++ (a ∷ [])) ++ (b ∷ [])) q (atm (sym 0))) (cond (ltb q (length vs)) u (cond (eqb q (length vs)) w z))
+two-sources B h vs q u own a b w z l s t =
+    subst (λ (y : ValueLeft). Source B h (getD ((vs ++ (a ∷ [])) ++ (b ∷ [])) q (atm (sym 0))) y) (same (ltb q (length vs)) (eqb q (length vs)) refl refl)
+    (last-source B h (vs ++ (a ∷ [])) q (cond (ltb q (length vs)) u w) (λ k. last-source B h vs q u own a w k s) b z l t)
   where
-    go : Dec (q ≡ p) → Source B h (getD (withValue p v ws) q (atm (sym 0))) (cond (eqb q p) w u)
-    go (yes e) =
-        let i : getD (withValue p v ws) q (atm (sym 0)) ≡ v = ap (λ (j : ℕ). getD (withValue p v ws) j (atm (sym 0))) e ∙ with-same p v ws most (atm (sym 0)) in
-        rw (eq-eqb q p e) (subst (λ (y : Exp). Source B h y w) (inv i) s)
-    go (no n) = let o = with-other p v ws most (atm (sym 0)) q n l in rw (ne-eqb q p n) (subst (λ (y : Exp). Source B h y u) (inv (o .1)) (t (o .0)))
+    one : length (vs ++ (a ∷ [])) ≡ length vs + 1
+    one = length-append vs (a ∷ [])
+
+    same : (x y : Bool) → ltb q (length vs) ≡ x → eqb q (length vs) ≡ y → cond (ltb q (length (vs ++ (a ∷ [])))) (cond x u w) z ≡ cond x u (cond y w z)
+    same true y e f = let k = ltb-true q (length vs) e in rw (lt-ltb q (length (vs ++ (a ∷ []))) (omega (arith, one)))
+    same false true e f = let k = eqb-true q (length vs) f in rw (lt-ltb q (length (vs ++ (a ∷ []))) (omega (arith, one)))
+    same false false e f = let k = ltb-false q (length vs) e in let n = eqb-false q (length vs) f in rw (le-ltb q (length (vs ++ (a ∷ []))) (omega (arith, one, n)))
 
 -- a range that is there
 at-source : {B : ℕ} {h g : List ℕ} {from to : ℕ} {v : Exp} → Holds h B from to v → B ≤ 65535 → Kept B h g → Source B h v (valueLeft (At from to B 0) g)
@@ -166,67 +150,41 @@ module _ (code : List ℕ) (empty : NoConstants code) {h f q : List ℕ} {c : In
 
   -- behind a `cons?`
   module _ {p : Prog} {bodies : ℕ → ℕ} {t : Exp} {m k n : ℕ} {s u : Term} (T : TestAt p bodies code names (c .place) t m k n s u) where
-    abbrev first : List Param
-    first = withName (pe m) names
-
-    -- the places of its names
-    abbrev places : Binders
-    places = record { head = placeIn (pe m) names; tail = placeIn (pe k) first; atom = placeIn (pa n) names }
-
-    binders-are : bindersOf code c ≡ places
-    binders-are = rw (names-from-is c T, T .head, T .tail, T .atom)
-
-    tested-is : (a : Tested) (j i p : ℕ) → linkAt code j ≡ link 2 i 0 p → (e : List ℕ) → namedAt code c (Test a) j e f ≡ testedBy code c places a i j e f
-    unfolding namedAt testedNamed
-    tested-is a j i p is e = ap₂ (λ (b : Binders) (l : Link). testedBy code c b a (l .first) j e f) binders-are is
-
-    -- the values with those of its two `e.` names
-    abbrev headPart : Exp → List Exp
-    headPart a = withValue (placeIn (pe m) names) a vs
-
-    abbrev pub twoParts : Exp → Exp → List Exp
-    twoParts a b = withValue (placeIn (pe k) first) b (headPart a)
-
-    head-most : placeIn (pe m) names ≤ length vs
-    head-most = omega (arith, place-most (pe m) names, typed-length (x .typed))
-
-    tail-most : (a : Exp) → placeIn (pe k) first ≤ length (headPart a)
-    tail-most a = omega (arith, place-most (pe k) first, typed-length (typed-with-e m a (x .typed)))
+    -- the names in reach, by their number
+    names-count : namesIn c ≡ length vs
+    names-count = omega (arith, entries-are x few)
 
     -- by the index of a part, or by its value
-    three : (t d i j : ℕ) (e : List ℕ) → ownAt code c (cond (eqb i t) (linkAt code (testAt c + 2) .past) (cond (eqb i d) (testAt c + 2) j)) e f ≡
-        cond (eqb i t) (ownAt code c (linkAt code (testAt c + 2) .past) e f) (cond (eqb i d) (ownAt code c (testAt c + 2) e f) (ownAt code c j e f))
-    three t d i j e = go (eqb i t) (eqb i d)
+    three : (i j : ℕ) (e : List ℕ) → ownAt code c (partIndex code c i j) e f ≡
+        cond (ltb i (length vs)) (ownAt code c j e f) (cond (eqb i (length vs)) (ownAt code c (testAt c + 2) e f) (ownAt code c (linkAt code (testAt c + 2) .past) e f))
+    three i j e = rw names-count (go (ltb i (length vs)) (eqb i (length vs)))
       where
-        go : (a b : Bool) → ownAt code c (cond a (linkAt code (testAt c + 2) .past) (cond b (testAt c + 2) j)) e f ≡
-            cond a (ownAt code c (linkAt code (testAt c + 2) .past) e f) (cond b (ownAt code c (testAt c + 2) e f) (ownAt code c j e f))
+        go : (a b : Bool) → ownAt code c (cond a j (cond b (testAt c + 2) (linkAt code (testAt c + 2) .past))) e f ≡
+            cond a (ownAt code c j e f) (cond b (ownAt code c (testAt c + 2) e f) (ownAt code c (linkAt code (testAt c + 2) .past) e f))
         go true b = refl
         go false true = refl
         go false false = refl
 
     module _ (now : ℕ) (above : c .used ≤ now) (in-heap : now ≤ 65535) where
-      pub atom-sources : (from to : ℕ) (y : AtomicExp) → Holds g now from to (atm y) → Sources code c (Test (Atom from to now)) f now g (withValue (placeIn (pa n) names) (atm y) vs)
-      atom-sources from to y at i l j p is e kept =
-          subst (λ (w : ValueLeft). Source now g (getD (withValue (placeIn (pa n) names) (atm y) vs) i (atm (sym 0))) w) (inv (tested-is (Atom from to now) j i p is e))
-          (bound-source now g (placeIn (pa n) names) (atm y) vs (omega (arith, place-most (pa n) names, typed-length (x .typed))) i l (valueLeft (At from to now 0) e) (ownAt code c j e f) (at-source at in-heap kept)
-          (λ o. own-source now above e kept i o j p is))
+      pub atom-sources : (from to : ℕ) (y : AtomicExp) → Holds g now from to (atm y) → Sources code c (Test (Atom from to now)) f now g (vs ++ (atm y ∷ []))
+      unfolding namedAt testedNamed
+      atom-sources from to y there i l j p is e kept =
+          rw (is, names-count) (last-source now g vs i (ownAt code c j e f) (λ o. own-source now above e kept i o j p is) (atm y) (valueLeft (At from to now 0) e) l (at-source there in-heap kept))
 
-      pub pair-sources : (from mid to : ℕ) (a b : Exp) → Holds g now from mid a → Holds g now mid to b → Sources code c (Test (Pair from mid to now)) f now g (twoParts a b)
+      pub pair-sources : (from mid to : ℕ) (a b : Exp) → Holds g now from mid a → Holds g now mid to b → Sources code c (Test (Pair from mid to now)) f now g ((vs ++ (a ∷ [])) ++ (b ∷ []))
+      unfolding namedAt testedNamed
       pair-sources from mid to a b head tail i l j p is e kept =
-          subst (λ (w : ValueLeft). Source now g (getD (twoParts a b) i (atm (sym 0))) w) (inv (tested-is (Pair from mid to now) j i p is e))
-          (bound-source now g (placeIn (pe k) first) b (headPart a) (tail-most a) i l (valueLeft (At mid to now 0) e) (cond (eqb i (placeIn (pe m) names)) (valueLeft (At from mid now 0) e) (ownAt code c j e f)) (at-source tail in-heap kept)
-          (λ o. bound-source now g (placeIn (pe m) names) a vs head-most i o (valueLeft (At from mid now 0) e) (ownAt code c j e f) (at-source head in-heap kept) (λ r. own-source now above e kept i r j p is)))
+          rw (is, names-count) (two-sources now g vs i (ownAt code c j e f) (λ o. own-source now above e kept i o j p is) a b (valueLeft (At from mid now 0) e) (valueLeft (At mid to now 0) e) l
+          (at-source head in-heap kept) (at-source tail in-heap kept))
 
     -- a `cons` of the program whose value has no room
-    pub large-sources : {a b : Exp} → ExpLinked code names (c .place + 4) (pair a b) (T .names-from) → Known names (pair a b) → Sources code c (Test Large) f (c .used) g (twoParts (apply σ a) (apply σ b))
+    pub large-sources : {a b : Exp} → ExpLinked code names (c .place + 4) (pair a b) (T .names-from) → Known names (pair a b) → Sources code c (Test Large) f (c .used) g ((vs ++ (apply σ a ∷ [])) ++ (apply σ b ∷ []))
+    unfolding namedAt testedNamed
     large-sources {a} {b} linked kn i l j p is e kept =
         let parts = cons-parts linked in
         let at : testAt c + 2 ≡ c .place + 4 + 2 = ap (λ (i : ℕ). i + 2) (test-from c T) in
         let behind : linkAt code (testAt c + 2) .past ≡ parts .0 = ap (λ (i : ℕ). linkAt code i .past) at ∙ past-linked (parts .2) in
         let la2 : ExpLinked code names (testAt c + 2) a (parts .0) = rw at (parts .2) in
         let lb2 = subst (λ (i : ℕ). ExpLinked code names i b (parts .1)) (inv behind) (parts .3) in
-        subst (λ (w : ValueLeft). Source (c .used) g (getD (twoParts (apply σ a) (apply σ b)) i (atm (sym 0))) w)
-        (inv (tested-is Large j i p is e ∙ three (placeIn (pe k) first) (placeIn (pe m) names) i j e))
-        (bound-source (c .used) g (placeIn (pe k) first) (apply σ b) (headPart (apply σ a)) (tail-most (apply σ a)) i l (ownAt code c (linkAt code (testAt c + 2) .past) e f)
-        (cond (eqb i (placeIn (pe m) names)) (ownAt code c (testAt c + 2) e f) (ownAt code c j e f)) (exp-source e kept lb2 (kn .1))
-        (λ o. bound-source (c .used) g (placeIn (pe m) names) (apply σ a) vs head-most i o (ownAt code c (testAt c + 2) e f) (ownAt code c j e f) (exp-source e kept la2 (kn .0)) (λ r. own-source (c .used) (omega arith) e kept i r j p is)))
+        rw (is, three i j e) (two-sources (c .used) g vs i (ownAt code c j e f) (λ o. own-source (c .used) (omega arith) e kept i o j p is) (apply σ a) (apply σ b) (ownAt code c (testAt c + 2) e f)
+        (ownAt code c (linkAt code (testAt c + 2) .past) e f) l (exp-source e kept la2 (kn .0)) (exp-source e kept lb2 (kn .1)))

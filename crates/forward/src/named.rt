@@ -11,8 +11,9 @@ use values::value::value;
 ghost use mathlib.Core.Path.{_≡_};
 ghost use Prim.Native.Nat.{_≤_};
 ghost use Rattle.values.specs.twins.Values.{valueLeft};
+ghost use Rattle.values.specs.declared.value.Valued.the-variants.{At};
 ghost use Rattle.looking.specs.twins.Looking.{testAt};
-ghost use Rattle.forward.specs.twins.Naming.{argumentFrom, bindersOf, ownAt, argumentNamed, partIndex, testedNamed, namedAt};
+ghost use Rattle.forward.specs.twins.Naming.{argumentFrom, namesIn, ownAt, argumentNamed, partIndex, testedNamed, namedAt};
 
 // The index of an argument, so many behind the one at i.
 fn argument_from(code: &[u16; 24582], q: u16, i: usize) -> usize
@@ -36,28 +37,11 @@ fn inner(c: Configuration) -> usize
     cell::least(c.place, 4097) + 4
 }
 
-// The places of the three names of a `cons?`.
-pub(crate) struct Binders {
-    pub head: u16,
-    pub tail: u16,
-    pub atom: u16,
-}
-
-// They stand behind what is tested.
-fn binders_of(code: &[u16; 24582], c: Configuration) -> Binders
-    ensures { λ r. ⌜ r ≡ bindersOf (now (code .entry)) c ⌝ }
+// How many names are in reach: those that a `cons?` binds come behind them.
+fn names_in(c: Configuration) -> usize
+    ensures { λ r. ⌜ r ≡ namesIn c ⌝ }
 {
-    let l = link_at(code, inner(c));
-    let past = l.past;
-    let j = past as usize;
-    let head = link_at(code, j);
-    let tail = link_at(code, j + 1);
-    let atom = link_at(code, j + 2);
-    Binders {
-        head: head.first,
-        tail: tail.first,
-        atom: atom.first,
-    }
+    cell::less(c.entries, names_from(c))
 }
 
 // The value of the expression at i in the configuration's environment.
@@ -89,19 +73,33 @@ fn argument_value(
 
 // The part of the `cons` that is tested to which the name with the place q is bound, or the name's own token j. What the heap has no room for is a `cons`
 // of the program.
-fn part_index(code: &[u16; 24582], c: Configuration, b: Binders, q: u16, j: usize) -> usize
-    ensures { λ r. ⌜ r ≡ partIndex (now (code .entry)) c b q j ⌝ }
+fn part_index(code: &[u16; 24582], c: Configuration, q: u16, j: usize) -> usize
+    ensures { λ r. ⌜ r ≡ partIndex (now (code .entry)) c q j ⌝ }
 {
-    let i = inner(c) + 2;
-    if q == b.tail {
-        let l = link_at(code, i);
-        let past = l.past;
-        return past as usize;
+    let n = names_in(c);
+    let place = cell::wide(q);
+    if place < n {
+        return j;
     }
-    if q == b.head {
+    let i = inner(c) + 2;
+    if place == n {
         return i;
     }
-    j
+    let l = link_at(code, i);
+    let past = l.past;
+    past as usize
+}
+
+// A range of which nothing more is known.
+fn plain(from: usize, to: usize, used: usize) -> Valued
+    ensures { λ r. ⌜ r ≡ At from to used 0 ⌝ }
+{
+    Valued::At {
+        from: from,
+        to: to,
+        used: used,
+        known: 0,
+    }
 }
 
 // Behind a `cons?`: its names are bound to the atom, or to the parts of the pair; the others are what they were.
@@ -116,18 +114,14 @@ fn tested_value(
 ) -> Valued
     ensures { λ r. ⌜ valueLeft r (now (heap .exit)) ≡ testedNamed (now (code .entry)) c t q j (now (heap .entry)) (now (frame .entry)) ⌝ }
 {
-    let b = binders_of(code, c);
+    let n = names_in(c);
+    let place = cell::wide(q);
     match t {
         Tested::Atom { from, to, used } => {
-            if q == b.atom {
-                return Valued::At {
-                    from,
-                    to,
-                    used,
-                    known: 0,
-                };
+            if place < n {
+                return own_value(code, heap, frame, c, j);
             }
-            own_value(code, heap, frame, c, j)
+            plain(from, to, used)
         }
         Tested::Pair {
             from,
@@ -135,26 +129,16 @@ fn tested_value(
             to,
             used,
         } => {
-            if q == b.tail {
-                return Valued::At {
-                    from: mid,
-                    to: to,
-                    used: used,
-                    known: 0,
-                };
+            if place < n {
+                return own_value(code, heap, frame, c, j);
             }
-            if q == b.head {
-                return Valued::At {
-                    from: from,
-                    to: mid,
-                    used: used,
-                    known: 0,
-                };
+            if place == n {
+                return plain(from, mid, used);
             }
-            own_value(code, heap, frame, c, j)
+            plain(mid, to, used)
         }
         Tested::Variable { var: _ } => Valued::Over,
-        Tested::Large => own_value(code, heap, frame, c, part_index(code, c, b, q, j)),
+        Tested::Large => own_value(code, heap, frame, c, part_index(code, c, q, j)),
     }
 }
 

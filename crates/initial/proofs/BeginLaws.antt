@@ -6,9 +6,7 @@ use mathlib.Core.List.{List, [], _∷_}
 use mathlib.Core.Option.{Option, none, some}
 use mathlib.Core.Logic.{_⊎_, inl, inr}
 use native.Mathlib.Omega.{arith}
-use lib.Dec.{ltb}
 use lib.ListN.{length, length-append}
-use borrow.Author.Tests.{ltb-true}
 use Rattle.expressions.specs.Expression.{Exp, atm, evar, pair, nodes}
 use Rattle.expressions.specs.Restriction.{Restriction, simplify}
 use Rattle.expressions.specs.Class.{IOClass}
@@ -18,7 +16,8 @@ use Rattle.expressions.proofs.Tests.{and-both}
 use Rattle.sets.specs.twins.Restricting.{RestrictAnswer}
 use Rattle.sets.proofs.RestrictionLaws.{Front, Answers}
 use Rattle.language.specs.Program.{Param, pe, pa, Prog, find}
-use Rattle.language.specs.WellFormed.{fits, wellFormedDefs, wellFormed}
+use Rattle.language.specs.WellFormed.{fits, admitted}
+use Rattle.language.proofs.Formed.{some-main}
 use Rattle.syntax.specs.declared.job_ends.JobEnds.{JobEnds}
 use Rattle.semantics.specs.Environment.{bindParams}
 use Rattle.semantics.specs.Configuration.{ExpEnv, state, nodesState, Configuration, startWith, start}
@@ -45,12 +44,10 @@ abbrev pub inMain : Prog → Configuration → Configuration
 inMain p K = record { cr = K .cr; term = find p 0 .body; fresh = K .fresh }
 
 -- its names are in scope, as each transition behind it asks
-pub main-scoped : (p : Prog) (ds : List Exp) → wellFormed p ≡ true → fits (find p 0 .params) ds ≡ true → WellScoped p (find p 0 .body) (envOf (find p 0 .params) ds)
-main-scoped p ds formed fit =
-    let some-main = ltb-true 0 (length p) (and-both (ltb 0 (length p)) (wellFormedDefs p p) formed .0) in
-    scoped-body formed (defines-find p 0 _ some-main) (bindParams-bound _ _ (find p 0 .params) ds fit)
+pub main-scoped : (p : Prog) (ds : List Exp) → admitted p ≡ true → fits (find p 0 .params) ds ≡ true → WellScoped p (find p 0 .body) (envOf (find p 0 .params) ds)
+main-scoped p ds formed fit = scoped-body formed (defines-find p 0 _ (some-main p formed)) (bindParams-bound _ _ (find p 0 .params) ds fit)
 
-pub start-main : (p : Prog) (P : IOClass) (K : Configuration) → wellFormed p ≡ true → fits (find p 0 .params) (P .con .ins) ≡ true → start p P ≡ some K →
+pub start-main : (p : Prog) (P : IOClass) (K : Configuration) → admitted p ≡ true → fits (find p 0 .params) (P .con .ins) ≡ true → start p P ≡ some K →
     (successors p K ≡ called (inMain p K)) × WellScoped p (inMain p K .term) (inMain p K .cr .con .env)
 start-main p P K formed fit e = (main-called p P K formed fit e, pick (simplify (P .neqs)) e)
   where
@@ -84,7 +81,7 @@ module _ (p : Prog) (bodies : ℕ → ℕ) (code : List ℕ) where
   BeginsAs none w = w .answer ≡ None
   BeginsAs (some K) w = ((w .answer ≡ Over) × (4097 < nodesState (K .cr))) ⊎ Begins (inMain p K) w
 
-  module _ (linked : ProgramLinked p bodies code) (formed : wellFormed p ≡ true) (P : IOClass) (fit : fits (find p 0 .params) (P .con .ins) ≡ true)
+  module _ (linked : ProgramLinked p bodies code) (formed : admitted p ≡ true) (P : IOClass) (fit : fits (find p 0 .params) (P .con .ins) ≡ true)
       (h f q : List ℕ) (h-size : length h ≡ 65535) (f-size : length f ≡ 12360) (q-size : length q ≡ 4096)
       (room : ioSize P ≤ 4096) (few : length (sideCells P) ≤ 4096) where
     abbrev ins : List Exp
@@ -121,7 +118,7 @@ module _ (p : Prog) (bodies : ℕ → ℕ) (code : List ℕ) where
 
       in-main : (w : EnterLeft) → EntersJob g size ins (P .con .out) w → Begins main (besides g q2 (begunEntered (bodies 0) size (length qs) next w))
       in-main w e =
-          let y = found-linked 0 linked formed (ltb-true 0 (length p) (and-both (ltb 0 (length p)) (wellFormedDefs p p) formed .0)) in
+          let y = found-linked 0 linked (some-main p formed) in
           rw (e .done) (record {
             at = record { inputs = length ins; outputs = 1; entries = length ins + 1 + length ins; used = size; neqs = length qs; place = bodies 0; counter = next };
             on = refl;

@@ -17,7 +17,7 @@ use Rattle.language.specs.Tokens.{ofJob, Token, symbolsOf}
 use Rattle.language.specs.Reader.{Res, ok, refused}
 use Rattle.language.specs.Program.{Param, Prog, find}
 use Rattle.language.specs.Scope.{isAtomic}
-use Rattle.language.specs.WellFormed.{fits, wellFormed}
+use Rattle.language.specs.WellFormed.{fits, admitted}
 use Rattle.language.specs.Source.{SExp, SParam, SDef, SProg, SJob, atOf, exp, exps, params, defs, functions, progOf, prog, class}
 use Rattle.language.specs.Grammar.{jobText}
 use Rattle.language.specs.JobCheck.{Tool, inputsVerdict, sideFits, sidesVerdict, boundsVerdict, jobVerdict}
@@ -148,7 +148,7 @@ module _ (text : List ℕ) (s : State) (p : SProg) (h : ProgramStored text s p) 
   params-few f l = defs-few (functions (defs p)) f (stored-order (s .marks) (s .nums) (s .ats) (s .i) p (h .holds)) l
 
 -- over a job whose parts stand in its tokens
-module _ (p : Prog) (bodies : ℕ → ℕ) (code : List ℕ) (linked : ProgramLinked p bodies code) (formed : wellFormed p ≡ true) (P : IOClass) (fit : fits (find p 0 .params) (P .con .ins) ≡ true)
+module _ (p : Prog) (bodies : ℕ → ℕ) (code : List ℕ) (linked : ProgramLinked p bodies code) (formed : admitted p ≡ true) (P : IOClass) (fit : fits (find p 0 .params) (P .con .ins) ≡ true)
     (jmarks jnums : List ℕ) (e : JobEnds) (job : JobHere jmarks jnums e P) (room : nodesAll (P .con .ins) + nodes (P .con .out) ≤ 4096) (few : 2 * length (P .neqs) ≤ 4096)
     (h f q : List ℕ) (h-size : length h ≡ 65535) (f-size : length f ≡ 12360) (q-size : length q ≡ 4096) where
   pub job-begins : BeginsAs p bodies code (start p P) (begunAt (bodies 0) jmarks jnums e false h f q)
@@ -169,5 +169,5 @@ module _ (tool : Tool) (first text : List ℕ) (p : SProg) (j : SJob) (e : readi
       let passed = accepted-passed tool first text p j e in
       let short = job-short first text (symbolsOf [] first) u j job numbers atomic in
       let most = job .most in
-      job-begins (prog p) bodies code linked (passed .wellFormed) (class j) (passed .fits) (u .marks) (u .nums) _ (job-here first text (symbolsOf [] first) u j job numbers atomic)
+      job-begins (prog p) bodies code linked (passed .admitted) (class j) (passed .fits) (u .marks) (u .nums) _ (job-here first text (symbolsOf [] first) u j job numbers atomic)
       (omega (arith, short .0)) (omega (arith, short .1)) h f q h-size f-size q-size

@@ -11,7 +11,7 @@ use Rattle.expressions.specs.Substitution.{GroundSubst, ground, groundAtomic, g
 use Rattle.expressions.specs.Class.{IOPair}
 use Rattle.expressions.specs.Split.{largest, largestAll}
 use Rattle.language.specs.Program.{Param, pe, pa, Prog, find, atomOf, Term}
-use Rattle.language.specs.WellFormed.{fits, wellFormed}
+use Rattle.language.specs.WellFormed.{fits, admitted}
 use Rattle.semantics.specs.Embedding.{embed}
 use Rattle.semantics.proofs.EmbeddedStates.{embedEnv, atState, OneSuccessor}
 use Rattle.semantics.proofs.EmbeddedStates as embedding
@@ -120,7 +120,7 @@ module _ (io : IOPair) (k : ℕ) where
   one-called K (embedding.OneSuccessor.holds t σ) e = let z : _≡_ {A = ℕ} 0 1 = cc in absurd (omega arith)
   one-called K (embedding.OneSuccessor.fails t σ) e = let z : _≡_ {A = ℕ} 0 1 = cc in absurd (omega arith)
 
-pub start-step : (p : Prog) (vs : List Value) → wellFormed p ≡ true → fits (find p 0 .params) (map embed vs) ≡ true → step p (startTerm p) (startEnv p vs) ≡ go (find p 0 .body) (startEnv p vs)
+pub start-step : (p : Prog) (vs : List Value) → admitted p ≡ true → fits (find p 0 .params) (map embed vs) ≡ true → step p (startTerm p) (startEnv p vs) ≡ go (find p 0 .body) (startEnv p vs)
 start-step p vs formed fit =
     let σ = startEnv p vs in
     let K = atState (runPair vs) 1 (find p 0 .body) σ in

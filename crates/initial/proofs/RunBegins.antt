@@ -12,7 +12,7 @@ use Rattle.sets.specs.Cells.{cells, cellsAll}
 use Rattle.sets.proofs.CellLaws.{cellsAll-nodes}
 use Rattle.language.specs.Tokens.{symbolsOf}
 use Rattle.language.specs.Program.{Prog, find}
-use Rattle.language.specs.WellFormed.{fits, wellFormed}
+use Rattle.language.specs.WellFormed.{fits, admitted}
 use Rattle.language.specs.Source.{SProg, SJob, prog, class}
 use Rattle.language.specs.JobCheck.{runner}
 use Rattle.language.specs.Reading.{accepted, reading}
@@ -53,7 +53,7 @@ run-main p vs =
     ap₂ (λ (σ : ExpEnv) (n : ℕ). mainOf p σ (map embed vs) n) (bound-embed (find p 0 .params) vs) k
 
 -- its names are in scope
-pub run-scoped : (p : Prog) (vs : List Value) → wellFormed p ≡ true → fits (find p 0 .params) (map embed vs) ≡ true → WellScoped p (find p 0 .body) (embedEnv (startEnv p vs))
+pub run-scoped : (p : Prog) (vs : List Value) → admitted p ≡ true → fits (find p 0 .params) (map embed vs) ≡ true → WellScoped p (find p 0 .body) (embedEnv (startEnv p vs))
 run-scoped p vs formed fit = subst (λ (σ : ExpEnv). WellScoped p (find p 0 .body) σ) (bound-embed (find p 0 .params) vs) (main-scoped p (map embed vs) formed fit)
 
 module _ (p : Prog) (bodies : ℕ → ℕ) (code : List ℕ) where
@@ -64,7 +64,7 @@ module _ (p : Prog) (bodies : ℕ → ℕ) (code : List ℕ) where
   abbrev pub RunsAs : List Value → BegunLeft → Type 0
   RunsAs vs w = ((w .answer ≡ Over) × (4096 < nodesNext vs (go (find p 0 .body) (startEnv p vs)))) ⊎ Begins p bodies code (runMain p vs) w
 
-  module _ (linked : ProgramLinked p bodies code) (formed : wellFormed p ≡ true) (ds : List Exp) (fit : fits (find p 0 .params) ds ≡ true)
+  module _ (linked : ProgramLinked p bodies code) (formed : admitted p ≡ true) (ds : List Exp) (fit : fits (find p 0 .params) ds ≡ true)
       (jmarks jnums : List ℕ) (e : JobEnds) (here : Run (datumCells jmarks jnums) 4 (e .ins) (cellsAll ds)) (room : nodesAll ds < 4096)
       (h f q : List ℕ) (h-size : length h ≡ 65535) (f-size : length f ≡ 12360) (q-size : length q ≡ 4096) where
     -- THE LAW of `begin` in a run
@@ -100,5 +100,5 @@ module _ (first text : List ℕ) (p : SProg) (j : SJob) (e : reading runner firs
       let passed = accepted-passed runner first text p j e in
       let short = job-short first text (symbolsOf [] first) u j job numbers atomic in
       let most = job .most in
-      run-begins (prog p) bodies code linked (passed .wellFormed) (class j .con .ins) (passed .fits) (u .marks) (u .nums) _ (job-here first text (symbolsOf [] first) u j job numbers atomic .inputs)
+      run-begins (prog p) bodies code linked (passed .admitted) (class j .con .ins) (passed .fits) (u .marks) (u .nums) _ (job-here first text (symbolsOf [] first) u j job numbers atomic .inputs)
       (omega (arith, short .0)) h f q h-size f-size q-size (inputs j) (all-embed (class j .con .ins) (passed .groundInputs refl noughts ones))

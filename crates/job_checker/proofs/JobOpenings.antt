@@ -49,12 +49,12 @@ module _ {c j : ℕ} (l : j < c) (kind num : ℕ → ℕ) (cells : List ℕ) whe
   pub marked-on : eqb (kind j) 4 ≡ false → markedFrom kind num (c - j) j cells ≡ markedFrom kind num (c - (j + 1)) (j + 1) cells
   marked-on e = marked-more ∙ ap (λ b. markedFrom kind num (c - (j + 1)) (j + 1) (cond b (set cells (num j) 1) cells)) e
 
-pub sides-none : {k : ℕ} → k ≡ 0 → (key kind num at : ℕ → ℕ) (n : ℕ) (runs : Bool) (marked : List ℕ) (v : Verdict) (i : ℕ) → sidesAt key kind num at n runs k marked v i ≡ walked i Fine v
+pub sides-none : {k : ℕ} → k ≡ 0 → (key kind num at : ℕ → ℕ) (n : ℕ) (runs : Bool) (marked : List ℕ) (v : Verdict) (i : ℕ) → sidesAt key kind num at n runs k marked v i ≡ walked i Fine Fine v
 unfolding sidesAt
 sides-none e key kind num at n runs marked v i = rw e
 
 pub sides-more : {k : ℕ} → (k ≡ 0 → ⊥) → (key kind num at : ℕ → ℕ) (n : ℕ) (runs : Bool) (marked : List ℕ) (v : Verdict) (i : ℕ) →
-    sidesAt key kind num at n runs k marked v i ≡ cond (eqb (key i) 2) (walked i Fine v)
+    sidesAt key kind num at n runs k marked v i ≡ cond (eqb (key i) 2) (walked i Fine Fine v)
     (sidesAt key kind num at n runs (k - 1) marked (first v (twoSides key kind num at n runs marked (ahead n 1 i) .uses)) (twoSides key kind num at n runs marked (ahead n 1 i) .past))
 unfolding sidesAt
 sides-more {k = zero} f key kind num at n runs marked v i = absurd (f refl)

@@ -37,6 +37,7 @@ fn datum_leaf(marks: &[u16], ats: &[u16], n: usize, runs: bool, i: usize) -> Wal
     Walked {
         past: ahead(n, 1, i),
         names: Verdict::Fine,
+        rebound: Verdict::Fine,
         uses: judge(passes, 10, offset(ats, n, i)),
     }
 }
@@ -58,6 +59,7 @@ fn datum(marks: &[u16], ats: &[u16], n: usize, runs: bool, room: usize, i: usize
         return Walked {
             past: ahead(n, 1, end),
             names: Verdict::Fine,
+            rebound: Verdict::Fine,
             uses: first(u, v),
         };
     }
@@ -94,6 +96,7 @@ fn input(
     Walked {
         past: end,
         names: Verdict::Fine,
+        rebound: Verdict::Fine,
         uses: first(v, u),
     }
 }
@@ -188,6 +191,7 @@ fn two_sides(
     Walked {
         past: ahead(n, 1, last),
         names: Verdict::Fine,
+        rebound: Verdict::Fine,
         uses: first(u, v),
     }
 }
@@ -214,6 +218,7 @@ fn sides(
             return Walked {
                 past: at,
                 names: Verdict::Fine,
+                rebound: Verdict::Fine,
                 uses: fault,
             };
         }
@@ -227,6 +232,7 @@ fn sides(
     Walked {
         past: at,
         names: Verdict::Fine,
+        rebound: Verdict::Fine,
         uses: fault,
     }
 }
@@ -289,6 +295,7 @@ fn tens(
     Walked {
         past: a,
         names: Verdict::Fine,
+        rebound: Verdict::Fine,
         uses: first(v, u),
     }
 }

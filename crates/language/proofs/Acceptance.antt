@@ -1,4 +1,4 @@
--- What the acceptance of two texts gives (01, "From the input", 6 to 10 and 12): a well-formed program, inputs that fit main's
+-- What the acceptance of two texts gives (01, "From the input", 6 to 10, 12 and 13): a well-formed program, inputs that fit main's
 -- parameters and, in the runner, are ground, numbers within their bounds.
 use Prim.Native.Nat.{ℕ, _≤_}
 use mathlib.Core.Path.{_≡_, refl, ap, ap₂, subst, _∙_, sym as inv}
@@ -14,14 +14,14 @@ use Rattle.expressions.specs.Substitution.{GroundSubst, ground, groundAll}
 use Rattle.expressions.proofs.Tests.{and-both, eqb-same}
 use Rattle.language.specs.Program.{Param, pe, pa, sameParam, Prog, find}
 use Rattle.language.specs.Scope.{Scope, isIn, isAtomic, inScope, allInScope, atomicInScope, withA, pairScope, scopeOf}
-use Rattle.language.specs.WellFormed.{fits, hasParam, distinctParams, wellFormedTerm, wellFormedDefs, wellFormed}
+use Rattle.language.specs.WellFormed.{fits, hasParam, distinctParams, wellFormedTerm, wellFormedDefs, bindsNew, bindsNewAll, admitted}
 use Rattle.language.specs.Bytes.{Refusal, Verdict, unless, _orElse_, bytesVerdict}
 use Rattle.language.specs.Words.{Word}
 use Rattle.language.specs.Tokens.{Text, ofProgram, ofJob, tokens, symbolsOf}
 use Rattle.language.specs.Reader.{Res, ok, refused, andThen, unlessFault, Reader}
 use Rattle.language.specs.Source.{SExp, symS, evarS, avarS, pairS, eqaS, conspS, STerm, callS, conditionalS, resultS, SParam, SDef, SProg, SJob, exp, exps, placeOf, term, params, defs, functions, progOf, prog, class}
 use Rattle.language.specs.Grammar.{program, jobText}
-use Rattle.language.specs.ProgramCheck.{paramsTwice, conditionTwice, termTwice, defsTwice, reachE, reachEa, reachArgs, callVerdict, termVerdict, defsVerdict, programVerdict}
+use Rattle.language.specs.ProgramCheck.{paramsTwice, conditionTwice, termTwice, defsTwice, newE, newA, termRebound, defsRebound, reachE, reachEa, reachArgs, callVerdict, termVerdict, defsVerdict, programVerdict}
 use Rattle.language.specs.JobCheck.{Tool, runner, groundVerdict, variables, kindsVerdict, inputsVerdict, sidesVerdict, atMost, boundsVerdict, jobVerdict}
 use Rattle.language.specs.Reading.{readText, readProgram, readJob, accepted, rejected, withJob, withProgram, reading}
 use Rattle.language.proofs.Tests.{or-left, or-right, both, is-false}
@@ -122,11 +122,31 @@ module _ (p : Prog) (fs : List ℕ) where
       let y = no-fault (termTwice (q .body)) (defsTwice (q .name .num ∷ before) ds) (v .1) in
       both (both (params-distinct [] (q .params) (v .0)) (term-passed _ (q .body) (y .0) (w .0))) (defs-passed (q .name .num ∷ before) ds (y .1) (w .1))
 
-program-passed : (s : SProg) → programVerdict s ≡ none → wellFormed (prog s) ≡ true
+-- 13
+term-new : (fs : List ℕ) (sc : Scope) (t : STerm) → termRebound sc t ≡ none → bindsNew sc (term fs t) ≡ true
+term-new fs sc (resultS c) e = refl
+term-new fs sc (callS f cs) e = refl
+term-new fs sc (conditionalS (eqaS a b) s t) e = let w = no-fault (termRebound sc s) (termRebound sc t) e in both (term-new fs sc s (w .0)) (term-new fs sc t (w .1))
+term-new fs sc (conditionalS (conspS c h t x) s u) e =
+    let y = termRebound (pairScope (h .num) (t .num) sc) s in
+    let z = termRebound (withA (x .num) sc) u in
+    let w = no-fault (newE sc h) (newE sc t orElse newA sc x orElse y orElse z) e in
+    let v = no-fault (newE sc t) (newA sc x orElse y orElse z) (w .1) in
+    let r = no-fault (newA sc x) (y orElse z) (v .1) in
+    let q = no-fault y z (r .1) in
+    both (both (both (both (passes (not (isIn (h .num) (sc .evars))) 13 (h .at) (w .0)) (passes (not (isIn (t .num) (sc .evars))) 13 (t .at) (v .0))) (passes (not (isIn (x .num) (sc .avars))) 13 (x .at) (r .0)))
+    (term-new fs (pairScope (h .num) (t .num) sc) s (q .0))) (term-new fs (withA (x .num) sc) u (q .1))
+
+defs-new : (fs : List ℕ) (ds : List SDef) → defsRebound ds ≡ none → bindsNewAll (progOf fs ds) ≡ true
+defs-new fs [] e = refl
+defs-new fs (d ∷ ds) e = let w = no-fault (termRebound (scopeOf (params (d .params))) (d .body)) (defsRebound ds) e in both (term-new fs (scopeOf (params (d .params))) (d .body) (w .0)) (defs-new fs ds (w .1))
+
+program-passed : (s : SProg) → programVerdict s ≡ none → admitted (prog s) ≡ true
 unfolding programVerdict
 program-passed s e =
-    let w = no-fault (defsTwice [] (defs s)) (defsVerdict (prog s) (functions (defs s)) (defs s)) e in
-    both (lt-ltb 0 (length (prog s)) (omega arith)) (defs-passed (prog s) (functions (defs s)) [] (defs s) (w .0) (w .1))
+    let w = no-fault (defsTwice [] (defs s)) (defsRebound (defs s) orElse defsVerdict (prog s) (functions (defs s)) (defs s)) e in
+    let v = no-fault (defsRebound (defs s)) (defsVerdict (prog s) (functions (defs s)) (defs s)) (w .1) in
+    both (both (lt-ltb 0 (length (prog s)) (omega arith)) (defs-passed (prog s) (functions (defs s)) [] (defs s) (w .0) (v .1))) (defs-new (functions (defs s)) (defs s) (v .0))
 
 -- 10: as many as the parameters, of their kinds
 kinds-fit : (tool : Tool) (xs : List Param) (cs : List SExp) → length xs ≡ length cs → kindsVerdict tool xs cs ≡ none → fits xs (exps cs) ≡ true
@@ -157,7 +177,7 @@ inputs-ground (pa x ∷ xs) (c ∷ cs) l e θ φ =
 
 -- what holds of a program and a job that passed their checks
 pub record Passed (tool : Tool) (s : SProg) (t : SJob) : Type 0 where
-  pub wellFormed : wellFormed (prog s) ≡ true
+  pub admitted : admitted (prog s) ≡ true
   pub fits : fits (find (prog s) 0 .params) (class t .con .ins) ≡ true
   pub groundInputs : tool ≡ runner → (θ φ : GroundSubst) → groundAll θ (class t .con .ins) ≡ groundAll φ (class t .con .ins)
   pub steps : t .steps .num ≤ 1000
@@ -175,7 +195,7 @@ checks-passed tool s t d e =
     let x = no-fault (atMost 1000 (t .steps)) (atMost 1000000 (t .walk) orElse atMost 256 (t .table)) (v .1) in
     let y = no-fault (atMost 1000000 (t .walk)) (atMost 256 (t .table)) (x .1) in
     record {
-      wellFormed = program-passed s d;
+      admitted = program-passed s d;
       fits = kinds-fit tool xs (t .ins) l (u .1);
       groundInputs = λ q. inputs-ground xs (t .ins) l (subst (λ (r : Tool). kindsVerdict r xs (t .ins) ≡ none) q (u .1));
       steps = leb-true _ _ (passes _ 12 _ (x .0));

@@ -1,4 +1,5 @@
 pub mod Tests
+pub mod Formed
 pub mod Acceptance
 pub mod Readings
 pub mod VerdictNumbers

@@ -2,11 +2,12 @@
 use Prim.Native.Nat.{ℕ, zero, suc}
 use Prim.Native.String.{String}
 use mathlib.Core.Path.{_≡_, refl}
+use mathlib.Core.Bool.{Bool, true, false}
 use mathlib.Core.List.{List, [], _∷_, _++_, map}
 use Rattle.language.specs.Bytes.{txt, Refusal}
 use Rattle.language.specs.Tokens.{Text, ofProgram, ofJob}
 use Rattle.language.specs.JobCheck.{Tool, lister, runner}
-use Rattle.language.specs.Reading.{Reading, rejected, reading}
+use Rattle.language.specs.Reading.{Reading, accepted, rejected, reading}
 
 -- a text that stands k times
 abbrev times : ℕ → String → List ℕ
@@ -133,12 +134,51 @@ cases =
     anyJob ofProgram 7 19 ∷
     []
 
+-- 02, request 1: the readings about a name bound twice in reach that refuse
+abbrev rebound : List Case
+rebound =
+    case 2 lister (txt "(define f [e.x a.p] (if (cons? e.x e.h e.t a.p) 'A 'B))")
+    anyJob ofProgram 13 43 ∷
+    case 2 lister (txt "(define f [e.x e.t] (if (cons? e.x e.h e.t a.p) 'A 'B))")
+    anyJob ofProgram 13 39 ∷
+    case 2 lister (txt "(define f [e.x] (if (cons? e.x e.h e.t a.p) 'A (if (eqa? a.p 'A) 'A (if (cons? e.x e.h e.t a.p) 'A 'B))))")
+    anyJob ofProgram 13 91 ∷
+    case 4 lister (txt "(define f [e.x] (if (cons? e.x e.x e.t a.p) 'A 'B))")
+    anyJob ofProgram 13 31 ∷
+    case 5 lister (txt "(define f [e.x] e.q)(define g [e.x] (if (cons? e.x e.x e.t a.p) 'A 'B))")
+    anyJob ofProgram 13 51 ∷
+    case 6 lister (txt "(define f [e.x] (if (cons? e.x e.x e.x a.p) 'A 'B))")
+    anyJob ofProgram 6 35 ∷
+    case 7 lister (txt "(define f [e.x] e.x)(define g [e.x] (if (cons? e.x e.x e.t a.p) 'A 'B))")
+    anyJob ofProgram 13 51 ∷
+    case 8 lister (txt "(define f [e.x] (if (cons? e.x e.h e.t a.p) (if (cons? e.h e.h e.u a.q) 'A 'B) (if (cons? e.x e.x e.t a.q) 'A 'B)))")
+    anyJob ofProgram 13 59 ∷
+    []
+
 computed : List Case → List Reading
 computed cs = map (λ c. reading (c .tool) (c .program) (c .job)) cs
 
 stated : List Case → List Reading
 stated cs = map (λ c. rejected (c .text) (c .refusal)) cs
 
-refused-so : computed cases ≡ stated cases
+refused-so : computed (cases ++ rebound) ≡ stated (cases ++ rebound)
 unfolding computed stated reading
 refused-so = refl
+
+-- and those that accept: `e.h` beside `a.h`; a name of the other branch; "Branches that can't see each other may share a name, as "same" does."
+abbrev shared : List (List ℕ × List ℕ)
+shared =
+    (txt "(define f [e.x a.h] (if (cons? e.x e.h e.t a.p) 'A 'B))", txt "(job (in 'A 'A) (out 'B) (neq) (steps 9) (walk 9) (table 9))") ∷
+    (txt "(define f [e.x] (if (cons? e.x e.h e.t a.p) (if (cons? e.h e.u e.v a.p) 'A 'B) 'C))", txt "(job (in (cons 'A 'A)) (out 'B) (neq) (steps 9) (walk 9) (table 9))") ∷ (
+      txt "(define same [e.x e.y] (if (cons? e.x e.h e.t a.p) 'No (if (cons? e.y e.h e.t a.q) 'No (if (eqa? a.p a.q) 'Yes 'No))))",
+      txt "(job (in ?e1 ?e2) (out 'No) (neq) (steps 4) (walk 7) (table 3))",
+    ) ∷
+    []
+
+isAccepted : Reading → Bool
+isAccepted (accepted s t) = true
+isAccepted (rejected x r) = false
+
+accepted-so : map (λ t. isAccepted (reading lister (t .0) (t .1))) shared ≡ true ∷ true ∷ true ∷ []
+unfolding isAccepted reading
+accepted-so = refl

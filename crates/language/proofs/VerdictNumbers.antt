@@ -12,12 +12,12 @@ use Rattle.language.specs.Scope.{Scope, isIn, isAtomic, withA, pairScope
 use Rattle.language.specs.WellFormed.{hasParam}
 use Rattle.language.specs.Bytes.{Verdict, fault, unless, _orElse_, byteKind, isOutside, outsideFrom, bytesVerdict}
 use Rattle.language.specs.Source.{Stand, SExp, symS, evarS, avarS, pairS, SCondition, eqaS, conspS, STerm, callS, conditionalS, resultS, SParam, SDef, SProg, SJob, atOf, exp, exps, placeOf, params, defs, functions, prog}
-use Rattle.language.specs.ProgramCheck.{paramsTwice, conditionTwice, termTwice, defsTwice, reachE, reachEa, reachArgs, callVerdict, termVerdict, defsVerdict, programVerdict}
+use Rattle.language.specs.ProgramCheck.{paramsTwice, conditionTwice, termTwice, defsTwice, newE, newA, termRebound, defsRebound, reachE, reachEa, reachArgs, callVerdict, termVerdict, defsVerdict, programVerdict}
 use Rattle.language.specs.JobCheck.{Tool, lister, runner, groundVerdict, variables, kindsVerdict, inputsVerdict, sideFits, sidesVerdict, atMost, boundsVerdict, jobVerdict}
 
--- "From the input": 1 to 12
+-- "From the input": 1 to 12, and 13 (02, request 1)
 abbrev pub Stated : ℕ → Type 0
-Stated n = (1 ≤ n) × (n ≤ 12)
+Stated n = (1 ≤ n) × (n ≤ 13)
 
 abbrev pub OfVerdict : Verdict → Type 0
 OfVerdict none = Unit {0}
@@ -69,6 +69,30 @@ defs-stated before (d ∷ ds) =
     (or-stated (paramsTwice [] (d .params)) (termTwice (d .body) orElse defsTwice (d .name .num ∷ before) ds) (params-stated [] (d .params))
     (or-stated (termTwice (d .body)) (defsTwice (d .name .num ∷ before) ds) (names-stated (d .body)) (defs-stated (d .name .num ∷ before) ds)))
 
+-- 13
+newE-stated : (sc : Scope) (x : Stand) → OfVerdict (newE sc x)
+newE-stated sc x = unless-stated (not (isIn (x .num) (sc .evars))) 13 (x .at) (omega arith, omega arith)
+
+newA-stated : (sc : Scope) (x : Stand) → OfVerdict (newA sc x)
+newA-stated sc x = unless-stated (not (isIn (x .num) (sc .avars))) 13 (x .at) (omega arith, omega arith)
+
+rebound-stated : (sc : Scope) (t : STerm) → OfVerdict (termRebound sc t)
+rebound-stated sc (callS f cs) = tt
+rebound-stated sc (conditionalS (eqaS c d) s t) = or-stated (termRebound sc s) (termRebound sc t) (rebound-stated sc s) (rebound-stated sc t)
+rebound-stated sc (conditionalS (conspS c h t x) s u) =
+    let y = termRebound (pairScope (h .num) (t .num) sc) s in
+    let z = termRebound (withA (x .num) sc) u in
+    or-stated (newE sc h) (newE sc t orElse newA sc x orElse y orElse z) (newE-stated sc h)
+    (or-stated (newE sc t) (newA sc x orElse y orElse z) (newE-stated sc t)
+    (or-stated (newA sc x) (y orElse z) (newA-stated sc x)
+    (or-stated y z (rebound-stated (pairScope (h .num) (t .num) sc) s) (rebound-stated (withA (x .num) sc) u))))
+rebound-stated sc (resultS c) = tt
+
+all-rebound-stated : (ds : List SDef) → OfVerdict (defsRebound ds)
+all-rebound-stated [] = tt
+all-rebound-stated (d ∷ ds) =
+    or-stated (termRebound (scopeOf (params (d .params))) (d .body)) (defsRebound ds) (rebound-stated (scopeOf (params (d .params))) (d .body)) (all-rebound-stated ds)
+
 -- 7, 8, 9
 reach-stated : (sc : Scope) (c : SExp) → OfVerdict (reachE sc c)
 reach-stated sc (symS z) = tt
@@ -110,7 +134,9 @@ module _ (p : Prog) (fs : List ℕ) where
 pub program-stated : (s : SProg) → OfVerdict (programVerdict s)
 unfolding programVerdict
 program-stated s =
-    or-stated (defsTwice [] (defs s)) (defsVerdict (prog s) (functions (defs s)) (defs s)) (defs-stated [] (defs s)) (bodies-stated (prog s) (functions (defs s)) (defs s))
+    let v = defsVerdict (prog s) (functions (defs s)) (defs s) in
+    or-stated (defsTwice [] (defs s)) (defsRebound (defs s) orElse v) (defs-stated [] (defs s))
+    (or-stated (defsRebound (defs s)) v (all-rebound-stated (defs s)) (bodies-stated (prog s) (functions (defs s)) (defs s)))
 
 -- 10, 11, 12
 ground-stated : (c : SExp) → OfVerdict (groundVerdict c)

@@ -1,4 +1,4 @@
--- The check of a program: 6; then 7, 8, 9. Each check asks what it asks in the order in which it stands in the text, so
+-- The check of a program: 6; then 13; then 7, 8, 9. Each check asks what it asks in the order in which it stands in the text, so
 -- that the first fault found is the earliest; at one offset the lowest number is asked first.
 use Prim.Native.Nat.{ℕ, zero, suc}
 use mathlib.Core.Bool.{Bool, true, false, cond, _&&_, not}
@@ -35,6 +35,24 @@ defsTwice before (d ∷ ds) =
     paramsTwice [] (d .params) orElse
     termTwice (d .body) orElse
     defsTwice (d .name .num ∷ before) ds
+
+-- "A name .. that a `cons?` binds may no longer be one already in reach on that branch." "Refused: 13, at the rebound name" (02, request 1)
+abbrev pub newE : Scope → Stand → Verdict
+newE sc x = unless (not (isIn (x .num) (sc .evars))) 13 (x .at)
+
+abbrev pub newA : Scope → Stand → Verdict
+newA sc x = unless (not (isIn (x .num) (sc .avars))) 13 (x .at)
+
+abbrev pub termRebound : Scope → STerm → Verdict
+termRebound sc (callS f cs) = none
+termRebound sc (conditionalS (eqaS c d) s t) = termRebound sc s orElse termRebound sc t
+termRebound sc (conditionalS (conspS c h t x) s u) =
+    newE sc h orElse newE sc t orElse newA sc x orElse termRebound (pairScope (h .num) (t .num) sc) s orElse termRebound (withA (x .num) sc) u
+termRebound sc (resultS c) = none
+
+abbrev pub defsRebound : List SDef → Verdict
+defsRebound [] = none
+defsRebound (d ∷ ds) = termRebound (scopeOf (params (d .params))) (d .body) orElse defsRebound ds
 
 -- "9 variable not in reach"
 abbrev pub reachE : Scope → SExp → Verdict
@@ -73,6 +91,6 @@ module _ (p : Prog) (fs : List ℕ) where
   defsVerdict [] = none
   defsVerdict (d ∷ ds) = termVerdict (scopeOf (params (d .params))) (d .body) orElse defsVerdict ds
 
--- "Program: 6; then 7, 8, 9 at the earliest token"
+-- "Program: 6; then 7, 8, 9 at the earliest token"; 13 "after 6 and before 7, 8 and 9"
 unfoldable pub programVerdict : SProg → Verdict
-programVerdict s = defsTwice [] (defs s) orElse defsVerdict (prog s) (functions (defs s)) (defs s)
+programVerdict s = defsTwice [] (defs s) orElse defsRebound (defs s) orElse defsVerdict (prog s) (functions (defs s)) (defs s)

@@ -1,4 +1,4 @@
--- Names in reach (01: "The true branch of `cons?` has its two xe, the false branch its xa, neither the other's").
+-- Names in reach (01, "Texts": "The true branch of `cons?` has its two xe, the false branch its xa, neither the other's").
 use Prim.Native.Nat.{ℕ}
 use mathlib.Core.Bool.{Bool, true, false, cond, _&&_, _||_}
 use mathlib.Core.List.{List, [], _∷_}

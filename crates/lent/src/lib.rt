@@ -2,3 +2,4 @@
 // crate is checked in seconds.
 pub mod clear;
 pub mod read;
+pub mod room;

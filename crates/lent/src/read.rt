@@ -9,7 +9,7 @@ pub const SYMBOLS: usize = 2048;
 
 pub const NAMES: usize = 8194;
 
-// Accepted: how many tokens are stored, and how many symbols the table has. Refused: 1 to 12, and the offset. Short: 20, nothing touched.
+// Accepted: how many tokens are stored, and how many symbols the table has. Refused: 1 to 13, and the offset. Short: 20, nothing touched.
 pub enum Read {
     Accepted { tokens: usize, symbols: u16 },
     Refused { number: usize, offset: usize },

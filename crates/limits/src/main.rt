@@ -1,4 +1,4 @@
-// Tries the readers at each limit of 01, on both sides of it, and on the readings of its open places. It reads cases from standard input
+// Tries the readers at each limit of 01, "Texts", on both sides of it, and on the readings of its open places. It reads cases from standard input
 // and prints a line for each: the title, then
 //
 //     accepted P J S               the program's tokens, the job's, and the symbols of both together
@@ -19,7 +19,7 @@
 // In a text `\n`, `\r` and `\t` are the bytes 10, 13 and 9, and `\xHH` is the byte with these two hexadecimal digits, in lower case.
 // `<17*A>` is what stands between `*` and `>` 17 times; in there `#` is the number of the time, from 1 on. Repetitions do not nest, and
 // `<`, `>`, `\` and, in a repetition, `#` themselves are written by their numbers. A text that is longer than the room for it is cut there,
-// which is over the limit of 01. The text of cases is cut at 65,536 bytes.
+// which is over the limit of 01, "From the input". The text of cases is cut at 65,536 bytes.
 mod cases;
 mod notation;
 mod printer;

@@ -39,7 +39,7 @@ fn all_five(
     all(names, x)
 }
 
-// Whether the storages are left as 01 has it: "20 ... nothing touched"; "Working storage is zero after each call", which is `names`, and
+// Whether the storages are left as 01, "From the state", has it: "20 ... nothing touched"; "Working storage is zero after each call", which is `names`, and
 // after a refusal all of them.
 pub fn left_sound(
     read: Read,

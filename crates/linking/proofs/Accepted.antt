@@ -11,6 +11,7 @@ use lib.Seq.{getD-set-same, getD-set-other}
 use borrow.Author.Tests.{eqb-true, lt-ltb, lt-leb}
 use Rattle.language.specs.Tokens.{Token, tag}
 use Rattle.language.specs.Source.{SDef, SProg, defs, functions, progOf, prog}
+use Rattle.language.specs.WellFormed.{admitted}
 use Rattle.grammar.specs.twins.Stored as stored
 use Rattle.words.specs.twins.Marks.{cellOf}
 use Rattle.lexer.specs.twins.Lexed.{State}
@@ -27,6 +28,7 @@ use Rattle.syntax.proofs.ProgramRead.{ProgramStored}
 use Rattle.linking.specs.twins.Linking.{programLinked}
 use Rattle.linking.specs.twins.Linked.{ProgramLinked}
 use Rattle.linking.proofs.TokenLaws.{TokensIn}
+use Rattle.linking.proofs.NewNames.{program-binds-new}
 use Rattle.linking.proofs.ProgramLaws.{bodiesOf, program-linked, program-kept}
 
 module _ (key : ℕ → ℕ) where
@@ -119,21 +121,21 @@ module _ (text : List ℕ) (s : State) (p : SProg) (h : ProgramStored text s p) 
     below : (m : ℕ) → getD (table .heads) m 0 < s .i → cellOf (getD (table .heads) m 0) ≡ getD (table .heads) m 0
     below m l = let q = h .most in omega arith
 
-    pub accepted-linked : (code : List ℕ) → length code ≡ 24582 →
+    pub accepted-linked : admitted (prog p) ≡ true → (code : List ℕ) → length code ≡ 24582 →
         ProgramLinked (prog p) (bodiesOf (s .marks) stands) (programLinked (s .marks) (s .nums) closing stands (table .count) code)
-    accepted-linked code z =
+    accepted-linked formed code z =
         let o = stored-order (s .marks) (s .nums) (s .ats) (s .i) p (h .holds) in
         let c = stored-count (s .marks) (s .nums) (s .ats) (s .i) p (h .holds) in
         let f = stored-few (s .marks) (s .nums) (s .ats) (s .i) p (h .holds) in
         program-linked tokens-in (table .count) code
-        (same-heads o (λ m a b. heads-at (table .heads) (table .count) 0 m heads (omega arith) (omega arith) (omega arith) ∙ below m (head-below o m a b))) c f z
+        (same-heads o (λ m a b. heads-at (table .heads) (table .count) 0 m heads (omega arith) (omega arith) (omega arith) ∙ below m (head-below o m a b))) c f z (program-binds-new (prog p) formed)
 
     -- .. and the cells behind the tokens are as they were
-    pub accepted-kept : (code : List ℕ) → length code ≡ 24582 →
+    pub accepted-kept : admitted (prog p) ≡ true → (code : List ℕ) → length code ≡ 24582 →
         (let g = programLinked (s .marks) (s .nums) closing stands (table .count) code in (length g ≡ 24582) × ((m : ℕ) → 16388 ≤ m → getD g m 0 ≡ getD code m 0))
-    accepted-kept code z =
+    accepted-kept formed code z =
         let o = stored-order (s .marks) (s .nums) (s .ats) (s .i) p (h .holds) in
         let c = stored-count (s .marks) (s .nums) (s .ats) (s .i) p (h .holds) in
         let f = stored-few (s .marks) (s .nums) (s .ats) (s .i) p (h .holds) in
         program-kept tokens-in (table .count) code
-        (same-heads o (λ m a b. heads-at (table .heads) (table .count) 0 m heads (omega arith) (omega arith) (omega arith) ∙ below m (head-below o m a b))) c f z
+        (same-heads o (λ m a b. heads-at (table .heads) (table .count) 0 m heads (omega arith) (omega arith) (omega arith) ∙ below m (head-below o m a b))) c f z (program-binds-new (prog p) formed)

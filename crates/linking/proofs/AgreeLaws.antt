@@ -13,10 +13,7 @@ use Rattle.linking.proofs.CodeLaws.{Agree, Wrote}
 agree-less : {a b c d : ℕ} {code g : List ℕ} → a ≤ c → d ≤ b → Agree a b code g → Agree c d code g
 agree-less p q h = record { same = λ j l m. h .same j (omega arith) (omega arith) }
 
-pub behind-agrees : {a b c d : ℕ} {code g : List ℕ} → Wrote a b code g → b ≤ c → Agree c d code g
-behind-agrees w p = record { same = λ j l m. w .behind j (omega arith) }
-
-pub before-agrees : {a b c d : ℕ} {code g : List ℕ} → Wrote a b code g → d ≤ a → Agree c d code g
+pub before-agrees : {a c d : ℕ} {code g : List ℕ} → Wrote a code g → d ≤ a → Agree c d code g
 before-agrees w p = record { same = λ j l m. w .before j (omega arith) }
 
 module _ (code : List ℕ) (sc : List Param) where
@@ -60,6 +57,5 @@ module _ (p : Prog) (bodies : ℕ → ℕ) (code : List ℕ) where
       (term-agrees s (agree-less (omega arith) (omega arith) a)) (term-agrees t (agree-less (omega arith) (omega arith) a))
   term-agrees (testLinked l c h t x s u) a =
       let y = exp-goes-on code _ c in let z = term-goes-on s in let w = term-goes-on u in
-      testLinked (a .same _ (omega arith) (omega arith) ∙ l) (exp-agrees code _ c (agree-less (omega arith) (omega arith) a)) (a .same _ (omega arith) (omega arith) ∙ h)
-      (a .same _ (omega arith) (omega arith) ∙ t) (a .same _ (omega arith) (omega arith) ∙ x) (term-agrees s (agree-less (omega arith) (omega arith) a)) (term-agrees u (agree-less (omega arith) (omega arith) a))
+      testLinked (a .same _ (omega arith) (omega arith) ∙ l) (exp-agrees code _ c (agree-less (omega arith) (omega arith) a)) h t x (term-agrees s (agree-less (omega arith) (omega arith) a)) (term-agrees u (agree-less (omega arith) (omega arith) a))
   term-agrees (resultLinked c) a = resultLinked (exp-agrees code _ c a)

@@ -16,11 +16,10 @@ use Rattle.linking.specs.twins.Linking.{tokenLink, rangeLinked}
 pub record Agree (a b : ℕ) (code g : List ℕ) : Type 0 where
   pub same : (j : ℕ) → a ≤ j → j < b → linkAt g j ≡ linkAt code j
 
--- g is what writing the tokens from a up to b made of code
-pub record Wrote (a b : ℕ) (code g : List ℕ) : Type 0 where
+-- g is what writing tokens from a on made of code
+pub record Wrote (a : ℕ) (code g : List ℕ) : Type 0 where
   pub long : length g ≡ length code
   pub before : (j : ℕ) → j < a → linkAt g j ≡ linkAt code j
-  pub behind : (j : ℕ) → b ≤ j → linkAt g j ≡ linkAt code j
   pub beyond : (j : ℕ) → 16388 ≤ j → getD g j 0 ≡ getD code j 0
 
 abbrev one : List ℕ → ℕ → Link → List ℕ
@@ -103,33 +102,31 @@ with-same i l code m e =
     (getD-set-other (three code i l) (4 * i + 3) (4 * i + 2) (l .past) 0 (λ g. omega arith) ∙ getD-set-same (two code i l) (4 * i + 2) (l .second) 0 a2)
     (getD-set-same (three code i l) (4 * i + 3) (l .past) 0 a3))
 
-pub with-wrote : (i : ℕ) (l : Link) (code : List ℕ) → Wrote i (i + 1) code (withLink i l code)
+pub with-wrote : (i : ℕ) (l : Link) (code : List ℕ) → Wrote i code (withLink i l code)
 with-wrote i l code = record {
   long = with-long i l code;
   before = λ j m. with-other i j l code (λ e. omega arith);
-  behind = λ j m. with-other i j l code (λ e. omega arith);
   beyond = λ j m. with-beyond i l code j m;
 }
 
-pub wrote-none : (a b : ℕ) (code : List ℕ) → Wrote a b code code
-wrote-none a b code = record { long = refl; before = λ j m. refl; behind = λ j m. refl; beyond = λ j m. refl }
+wrote-none : (a : ℕ) (code : List ℕ) → Wrote a code code
+wrote-none a code = record { long = refl; before = λ j m. refl; beyond = λ j m. refl }
 
-pub wider : {a b c d : ℕ} {code g : List ℕ} → Wrote c d code g → a ≤ c → d ≤ b → Wrote a b code g
-wider w p q = record { long = w .long; before = λ j m. w .before j (omega arith); behind = λ j m. w .behind j (omega arith); beyond = w .beyond }
+pub wider : {a c : ℕ} {code g : List ℕ} → Wrote c code g → a ≤ c → Wrote a code g
+wider w p = record { long = w .long; before = λ j m. w .before j (omega arith); beyond = w .beyond }
 
-pub wrote-then : {a b : ℕ} {code g h : List ℕ} → Wrote a b code g → Wrote a b g h → Wrote a b code h
-wrote-then v w = record { long = w .long ∙ v .long; before = λ j m. w .before j m ∙ v .before j m; behind = λ j m. w .behind j m ∙ v .behind j m; beyond = λ j m. w .beyond j m ∙ v .beyond j m }
+pub wrote-then : {a : ℕ} {code g h : List ℕ} → Wrote a code g → Wrote a g h → Wrote a code h
+wrote-then v w = record { long = w .long ∙ v .long; before = λ j m. w .before j m ∙ v .before j m; beyond = λ j m. w .beyond j m ∙ v .beyond j m }
 
 module _ (marks nums ends names : List ℕ) (used : ℕ) where
   abbrev ranged : ℕ → ℕ → List ℕ → List ℕ
   ranged left i code = rangeLinked marks nums ends names used left i code
 
-  pub range-wrote : (left i : ℕ) (code : List ℕ) → Wrote i (i + left) code (ranged left i code)
+  pub range-wrote : (left i : ℕ) (code : List ℕ) → Wrote i code (ranged left i code)
   unfolding rangeLinked
-  range-wrote zero i code = wrote-none i (i + 0) code
+  range-wrote zero i code = wrote-none i code
   range-wrote (suc left) i code =
-      wrote-then (wider (with-wrote i (tokenLink marks nums ends names used i) code) (omega arith) (omega arith))
-      (wider (range-wrote left (i + 1) (withLink i (tokenLink marks nums ends names used i) code)) (omega arith) (omega arith))
+      wrote-then (with-wrote i (tokenLink marks nums ends names used i) code) (wider (range-wrote left (i + 1) (withLink i (tokenLink marks nums ends names used i) code)) (omega arith))
 
   pub range-at : (left i : ℕ) (code : List ℕ) → i + left ≤ 4097 → length code ≡ 24582 → (j : ℕ) → i ≤ j → j < i + left → linkAt (ranged left i code) j ≡ tokenLink marks nums ends names used j
   unfolding rangeLinked

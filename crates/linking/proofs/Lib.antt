@@ -3,6 +3,7 @@ pub mod CodeLaws
 pub mod AgreeLaws
 pub mod TokenLaws
 pub mod NameLaws
+pub mod NewNames
 pub mod ExpressionLaws
 pub mod TermParts
 pub mod TermLaws

@@ -8,7 +8,7 @@ use lib.Dec.{eqb}
 use lib.ListN.{length, getD}
 use Rattle.linking.specs.declared.code.Link.{Link}
 use Rattle.linking.specs.twins.Code.{withLink}
-use Rattle.linking.specs.twins.Linking.{on, ifLink, trueNames, falseNames, linked, keyOf, sameName, placeFrom, headFrom, closingFrom, tokenLink, rangeLinked, LinksLeft, linksLeft, boundLink, parametersLinked, Linked, range, called, conditional, formOf, termLinked, ifLinked, definitionLinked, definitionsLinked}
+use Rattle.linking.specs.twins.Linking.{on, ifLink, trueNames, falseNames, linked, keyOf, sameName, placeFrom, headFrom, closingFrom, tokenLink, rangeLinked, NamesLeft, namesLeft, pushedName, parametersNamed, Linked, range, called, conditional, formOf, termLinked, ifLinked, definitionLinked, definitionsLinked}
 
 -- from j up to the end
 pub none-left : (c j : ℕ) → c ≤ j → c - j ≡ 0
@@ -55,14 +55,14 @@ pub range-turn : {to i : ℕ} → i < to → (marks nums ends names : List ℕ) 
 unfolding rangeLinked
 range-turn {to} {i} l marks nums ends names used code = rw (some-left to i l)
 
-pub parameters-end : {to i : ℕ} → to ≤ i → (marks nums : List ℕ) (used : ℕ) (names code : List ℕ) → parametersLinked marks nums (to - i) i used names code ≡ linksLeft used names code
-unfolding parametersLinked
-parameters-end {to} {i} l marks nums used names code = rw (none-left to i l)
+pub parameters-end : {to i : ℕ} → to ≤ i → (used : ℕ) (names : List ℕ) → parametersNamed (to - i) i used names ≡ namesLeft used names
+unfolding parametersNamed
+parameters-end {to} {i} l used names = rw (none-left to i l)
 
-pub parameters-turn : {to i : ℕ} → i < to → (marks nums : List ℕ) (used : ℕ) (names code : List ℕ) → let w = boundLink marks nums used i names code in
-    parametersLinked marks nums (to - i) i used names code ≡ parametersLinked marks nums (to - (i + 1)) (i + 1) (w .used) (w .names) (w .code)
-unfolding parametersLinked
-parameters-turn {to} {i} l marks nums used names code = rw (some-left to i l)
+pub parameters-turn : {to i : ℕ} → i < to → (used : ℕ) (names : List ℕ) → let w = pushedName used i names in
+    parametersNamed (to - i) i used names ≡ parametersNamed (to - (i + 1)) (i + 1) (w .used) (w .names)
+unfolding parametersNamed
+parameters-turn {to} {i} l used names = rw (some-left to i l)
 
 pub definitions-end : {n j : ℕ} → n ≤ j → (marks nums ends heads : List ℕ) (count : ℕ) (s : Linked) → definitionsLinked marks nums ends heads count (n - j) j s ≡ s
 unfolding definitionsLinked
@@ -87,9 +87,9 @@ term-more {room = zero} f marks nums ends heads count used i s = absurd (f refl)
 term-more {room = suc room} f marks nums ends heads count used i s = let e : suc room - 1 ≡ room = omega arith in rw e
 
 -- a conditional, part by part
-pub if-by : (marks nums ends heads : List ℕ) (count room used i : ℕ) (names code : List ℕ) {tested h yes no : ℕ} {l : Link} {c1 c2 : List ℕ} {a b : LinksLeft} {t r : Linked} →
+pub if-by : (marks nums ends heads : List ℕ) (count room used i : ℕ) (names code : List ℕ) {tested h yes no : ℕ} {l : Link} {c1 c2 : List ℕ} {a b : NamesLeft} {t r : Linked} →
     l ≡ ifLink marks ends i → yes ≡ l .first → no ≡ l .second → tested ≡ on i 4 → h ≡ getD ends tested 0 → c1 ≡ withLink i l code →
-    c2 ≡ rangeLinked marks nums ends names used (yes - tested) tested c1 → a ≡ trueNames marks nums used (l .mark) h names c2 →
-    t ≡ termLinked marks nums ends heads count room (a .used) yes (linked (a .names) (a .code)) → b ≡ falseNames marks nums used (l .mark) h (t .names) (t .code) →
-    r ≡ termLinked marks nums ends heads count room (b .used) no (linked (b .names) (b .code)) → r ≡ ifLinked marks nums ends heads count room used i (linked names code)
+    c2 ≡ rangeLinked marks nums ends names used (yes - tested) tested c1 → a ≡ trueNames used (l .mark) h names →
+    t ≡ termLinked marks nums ends heads count room (a .used) yes (linked (a .names) c2) → b ≡ falseNames used (l .mark) h (t .names) →
+    r ≡ termLinked marks nums ends heads count room (b .used) no (linked (b .names) (t .code)) → r ≡ ifLinked marks nums ends heads count room used i (linked names code)
 if-by marks nums ends heads count room used i names code pl py pn pi ph p1 p2 pa pt pb pr = rw (← pl, ← p1, ← py, ← pn, ← pi, ← ph, ← p2, ← pa, ← pt, ← pb) pr

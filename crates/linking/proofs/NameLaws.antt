@@ -1,16 +1,15 @@
--- Names that are bound: each in its place.
-use Prim.Native.Nat.{ℕ, zero, suc, _+_, _%_, _≤_, _<_, min}
-use mathlib.Core.Path.{_≡_, refl, ap, subst, _∙_, sym as inv}
+-- Names that come into reach: each behind those there are.
+use Prim.Native.Nat.{ℕ, suc, _+_, _≤_, _<_, min}
+use mathlib.Core.Path.{_≡_, ap, subst, _∙_, sym as inv}
 use mathlib.Core.Bool.{Bool, true, false, cond}
 use mathlib.Core.List.{List, [], _∷_, _++_}
 use native.Mathlib.Omega.{arith}
-use lib.Dec.{eqb, ltb}
 use lib.ListN.{length, getD, set, length-set, length-append}
 use lib.Seq.{getD-set-same, getD-set-other}
-use borrow.Author.Tests.{lt-ltb, le-ltb, ltb-true, ltb-false}
+use borrow.Author.Tests.{lt-ltb}
 use Rattle.language.specs.Tokens.{Token}
 use Rattle.language.specs.Program.{Param, sameParam}
-use Rattle.linking.specs.twins.Linking.{NamesLeft, namesLeft, placeFrom, placeOf, bound, boundName}
+use Rattle.linking.specs.twins.Linking.{placeFrom, placeOf, pushedName}
 use Rattle.linking.specs.twins.Linked.{placeIn, withName}
 use Rattle.linking.proofs.TokenLaws.{TokensIn, IsName, NamesAre, noNames, moreNames, place-found}
 
@@ -33,12 +32,6 @@ place-most x (y ∷ ys) = go (sameParam y x) (place-most x ys)
     go true l = omega arith
     go false l = omega arith
 
--- names that are kept are the same names
-pub names-kept : {tok : ℕ → Token} {n : ℕ} {a b : List ℕ} {j : ℕ} {xs : List Param} → NamesAre tok n a j xs → ((m : ℕ) → j ≤ m → m < j + length xs → getD b m 0 ≡ getD a m 0) → NamesAre tok n b j xs
-names-kept noNames h = noNames
-names-kept {tok} {n} {a} {b} {j} (moreNames {x = x} is more) h =
-    moreNames (subst (λ (i : ℕ). IsName tok n i x) (inv (h j (omega arith) (omega arith))) is) (names-kept more (λ m l k. h m (omega arith) (omega arith)))
-
 -- one name more behind them
 names-more : {tok : ℕ → Token} {n : ℕ} {a : List ℕ} {j i u : ℕ} {x : Param} {xs : List Param} → NamesAre tok n a j xs → IsName tok n i x → j + length xs ≡ u → u < length a →
     NamesAre tok n (set a u i) j (xs ++ (x ∷ []))
@@ -48,44 +41,17 @@ names-more {tok} {n} {a} {j} {i} {u} {x} noNames is e l =
 names-more {tok} {n} {a} {j} {i} {u} (moreNames {x = y} h hs) is e l =
     moreNames (subst (λ (k : ℕ). IsName tok n k y) (inv (getD-set-other a u j i 0 (λ q. omega arith))) h) (names-more hs is (omega arith) l)
 
--- what a name that is bound leaves
-pub record BoundTo (tok : ℕ → Token) (n : ℕ) (names : List ℕ) (used m : ℕ) (sc : List Param) (x : Param) (w : NamesLeft) : Type 0 where
-  pub place : w .bound .place ≡ placeIn x sc
-  pub reach : Names tok n (w .names) (w .bound .used) m (withName x sc)
-  pub kept : (j : ℕ) → j < used → getD (w .names) j 0 ≡ getD names j 0
+-- a name that comes into reach: its place is the number of those there were
+pub name-pushed : {tok : ℕ → Token} {n : ℕ} {names : List ℕ} {used m i : ℕ} {sc : List Param} {x : Param} → Names tok n names used (suc m) sc → IsName tok n i x →
+    (let w = pushedName used i names in Names tok n (w .names) (w .used) m (withName x sc))
+unfolding pushedName
+name-pushed {names = names} {used} {m} {i} {sc} {x} h is =
+    let c = h .count in let r = h .room in let s = h .size in let u : used < 144 = omega arith in
+    let a = length-append sc (x ∷ []) in let z = length-set names used i in
+    rw (lt-ltb used 144 u) (record { are = names-more (h .are) is (omega arith) (omega arith); count = omega arith; size = omega arith; room = omega arith })
 
 module _ {tok : ℕ → Token} {n : ℕ} {marks nums ends : List ℕ} (t : TokensIn tok n marks nums ends) where
   pub place-is : {names : List ℕ} {used m i : ℕ} {sc : List Param} {x : Param} → Names tok n names used m sc → IsName tok n i x → placeOf marks nums names used i ≡ placeIn x sc
   place-is {names} {used} {m} {i} {sc} {x} h is =
       let c = h .count in let r = h .room in let z : min used 144 ≡ length sc = omega arith in let y : 0 + placeIn x sc ≡ placeIn x sc = omega arith in
       ap (λ (k : ℕ). placeFrom marks nums names k 0 i) z ∙ place-found t names is (h .are) ∙ y
-
-  -- a name that is in reach
-  there : {names : List ℕ} {used m : ℕ} {sc : List Param} {x : Param} → Names tok n names used (suc m) sc → ltb (placeIn x sc) (length sc) ≡ true →
-      BoundTo tok n names used m sc x (namesLeft (bound marks nums (placeIn x sc) used) names)
-  there h f = record { place = refl; reach = rw f (names-less (omega arith) h); kept = λ j l. refl }
-
-  -- a new one
-  new : {names : List ℕ} {used m i : ℕ} {sc : List Param} {x : Param} → Names tok n names used (suc m) sc → IsName tok n i x → ltb (placeIn x sc) (length sc) ≡ false →
-      BoundTo tok n names used m sc x (namesLeft (bound marks nums used (used + 1)) (set names used i))
-  new {names} {used} {m} {i} {sc} {x} h is f =
-      let c = h .count in let r = h .room in let s = h .size in
-      let g = ltb-false (placeIn x sc) (length sc) f in let k = place-most x sc in
-      let a = length-append sc (x ∷ []) in let z = length-set names used i in
-      record {
-        place = omega arith;
-        reach = rw f (record { are = names-more (h .are) is (omega arith) (omega arith); count = omega arith; size = omega arith; room = omega arith });
-        kept = λ j l. getD-set-other names used j i 0 (λ e. omega arith);
-      }
-
-  pub bound-to : {names : List ℕ} {used m i : ℕ} {sc : List Param} {x : Param} → Names tok n names used (suc m) sc → IsName tok n i x →
-      BoundTo tok n names used m sc x (boundName marks nums used i names)
-  unfolding boundName
-  bound-to {names} {used} {m} {i} {sc} {x} h is =
-      let c = h .count in let r = h .room in let u : used < 144 = omega arith in
-      rw (place-is h is, lt-ltb used 144 u) (go (ltb (placeIn x sc) (length sc)) refl (ap (λ (k : ℕ). ltb (placeIn x sc) k) c))
-    where
-      go : (b : Bool) → ltb (placeIn x sc) (length sc) ≡ b → ltb (placeIn x sc) used ≡ ltb (placeIn x sc) (length sc) →
-          BoundTo tok n names used m sc x (cond (ltb (placeIn x sc) used) (namesLeft (bound marks nums (placeIn x sc) used) names) (namesLeft (bound marks nums used (used + 1)) (set names used i)))
-      go true f e = rw (e, f) (there h f)
-      go false f e = rw (e, f) (new h is f)

@@ -1,8 +1,8 @@
 -- A program that stands in the tokens stands linked in the code that linking leaves.
-use Prim.Native.Nat.{ℕ, zero, suc, _+_, _-_, _*_, _%_, _≤_, _<_, min}
+use Prim.Native.Nat.{ℕ, zero, suc, _+_, _-_, _%_, _≤_, _<_, min}
 use mathlib.Core.Path.{_≡_, refl, ap, ap₂, subst, _∙_, sym as inv}
 use mathlib.Core.Bool.{Bool, true, false, cond}
-use mathlib.Core.List.{List, [], _∷_}
+use mathlib.Core.List.{List, [], _∷_, _++_, append-assoc, append-nil}
 use native.Mathlib.Omega.{arith}
 use lib.Dec.{eqb, ltb}
 use lib.ListN.{length, getD, replicate, length-replicate}
@@ -13,13 +13,14 @@ use Rattle.syntax.specs.twins.Standing.{WordAt, ParamsAt, DefAt, defineAt, Defs
 use Rattle.syntax.specs.twins.Standing as at
 use Rattle.syntax.proofs.ProgramLaws.{term-bounds}
 use Rattle.linking.specs.twins.Code.{link, linkAt, withLink}
-use Rattle.linking.specs.twins.Linking.{on, keyOf, Linked, linked, LinksLeft, headFrom, headOf, closingFrom, closingAt, boundLink, parametersLinked, termLinked, definitionLinked, definitionsLinked, programLinked}
-use Rattle.linking.specs.twins.Linked.{withName, reach, TermLinked, BodiesLinked, noBodies, moreBodies, ProgramLinked}
-use Rattle.linking.proofs.CodeLaws.{Agree, Wrote, wrote-none, wider, wrote-then}
+use Rattle.linking.specs.twins.Linking.{on, keyOf, Linked, linked, headFrom, headOf, closingFrom, closingAt, pushedName, parametersNamed, termLinked, definitionLinked, definitionsLinked, programLinked}
+use Rattle.linking.specs.twins.Linked.{withName, TermLinked, BodiesLinked, noBodies, moreBodies, ProgramLinked}
+use Rattle.linking.proofs.CodeLaws.{Wrote, wider}
 use Rattle.linking.proofs.AgreeLaws.{before-agrees, term-goes-on, term-agrees}
 use Rattle.linking.proofs.TokenLaws.{TokensIn, IsName, eName, aName, NamesAre, noNames, moreNames, word-key}
-use Rattle.linking.proofs.NameLaws.{Names, names-less}
-use Rattle.linking.proofs.TermParts.{on-in, LinkedTo, Calls, NameLinked, name-linked}
+use Rattle.linking.proofs.NameLaws.{Names, names-less, name-pushed}
+use Rattle.linking.proofs.NewNames.{BindsNew, AllBindNew}
+use Rattle.linking.proofs.TermParts.{on-in, LinkedTo, Calls}
 use Rattle.linking.proofs.TermLaws.{term-linked}
 
 -- as many tokens as parameters
@@ -27,6 +28,16 @@ params-count : {tok : ℕ → Token} {n i : ℕ} {xs : List SParam} {k : ℕ} �
 params-count (at.ParamsAt.noneAt x) = (omega arith, x .below)
 params-count (at.ParamsAt.eAt b x xs) = let r = params-count xs in let q = r .0 in (omega arith, r .1)
 params-count (at.ParamsAt.aAt b x xs) = let r = params-count xs in let q = r .0 in (omega arith, r .1)
+
+-- parameters come into reach in order
+params-named : {tok : ℕ → Token} {n i : ℕ} {xs : List SParam} {k : ℕ} (used m : ℕ) (sc : List Param) (names : List ℕ) → ParamsAt tok n i xs k → Names tok n names used (length (params xs) + m) sc →
+    (let w = parametersNamed (length (params xs)) i used names in Names tok n (w .names) (w .used) m (sc ++ params xs))
+unfolding parametersNamed
+params-named used m sc names (at.ParamsAt.noneAt x) h = rw append-nil (names-less (omega arith) h)
+params-named {tok} {i = i} used m sc names (at.ParamsAt.eAt {xs = ys} b x ps) h =
+    let w = pushedName used i names in rw (← append-assoc sc (pe (tok i .num) ∷ []) (params ys)) (params-named (w .used) m (withName (pe (tok i .num)) sc) (w .names) ps (name-pushed (names-less (omega arith) h) (eName x)))
+params-named {tok} {i = i} used m sc names (at.ParamsAt.aAt {xs = ys} b x ps) h =
+    let w = pushedName used i names in rw (← append-assoc sc (pa (tok i .num) ∷ []) (params ys)) (params-named (w .used) m (withName (pa (tok i .num)) sc) (w .names) ps (name-pushed (names-less (omega arith) h) (aName x)))
 
 module _ {tok : ℕ → Token} {n : ℕ} {marks nums ends : List ℕ} (t : TokensIn tok n marks nums ends) where
   -- the bracket that closes parameters
@@ -41,42 +52,18 @@ module _ {tok : ℕ → Token} {n : ℕ} {marks nums ends : List ℕ} (t : Token
   closing-at {i} {xs} {k} x = let y = params-count x in let y0 = y .0 in let y1 = y .1 in let z = t .long in closing-found (length marks - i) x (omega arith)
 
   module _ (heads : List ℕ) (count : ℕ) (fs : List ℕ) (p : Prog) (bodies : ℕ → ℕ) where
-    -- what parameters leave
-    record ParamsLinked (code : List ℕ) (m i k : ℕ) (sc : List Param) (w : LinksLeft) : Type 0 where
-      wrote : Wrote i k code (w .code)
-      reach : Names tok n (w .names) (w .used) m sc
-
-    params-linked : {i : ℕ} {xs : List SParam} {k : ℕ} (used m : ℕ) (sc : List Param) (names code : List ℕ) → ParamsAt tok n i xs k → Names tok n names used (length (params xs) + m) sc → length code ≡ 24582 →
-        ParamsLinked code m i k (reach sc (params xs)) (parametersLinked marks nums (length (params xs)) i used names code)
-    unfolding parametersLinked
-    params-linked {i} {xs} {k} used m sc names code (at.ParamsAt.noneAt x) h e = record { wrote = wrote-none i i code; reach = names-less (omega arith) h }
-    params-linked {i} {xs} {k} used m sc names code (at.ParamsAt.eAt {xs = ys} b x ps) h e =
-        let h1 : Names tok n names used (suc (length (params ys) + m)) sc = names-less (omega arith) h in
-        let w = name-linked t heads count fs p bodies {code = code} h1 (eName x) (x .below) e in
-        let y = params-count ps .0 in
-        let v = boundLink marks nums used i names code in
-        let r = params-linked (v .used) m (withName (pe (tok i .num)) sc) (v .names) (v .code) ps (w .reach) (w .wrote .long ∙ e) in
-        record { wrote = wrote-then (wider (w .wrote) (omega arith) (omega arith)) (wider (r .wrote) (omega arith) (omega arith)); reach = r .reach }
-    params-linked {i} {xs} {k} used m sc names code (at.ParamsAt.aAt {xs = ys} b x ps) h e =
-        let h1 : Names tok n names used (suc (length (params ys) + m)) sc = names-less (omega arith) h in
-        let w = name-linked t heads count fs p bodies {code = code} h1 (aName x) (x .below) e in
-        let y = params-count ps .0 in
-        let v = boundLink marks nums used i names code in
-        let r = params-linked (v .used) m (withName (pa (tok i .num)) sc) (v .names) (v .code) ps (w .reach) (w .wrote .long ∙ e) in
-        record { wrote = wrote-then (wider (w .wrote) (omega arith) (omega arith)) (wider (r .wrote) (omega arith) (omega arith)); reach = r .reach }
-
     -- what a definition leaves: its body from b on
     record DefLinked (s : Linked) (i b k : ℕ) (d : SDef) (r : Linked) : Type 0 where
       last : ℕ
-      term : TermLinked p bodies (r .code) (reach [] (params (d .params))) b (term fs (d .body)) last
-      wrote : Wrote i k (s .code) (r .code)
+      term : TermLinked p bodies (r .code) (params (d .params)) b (term fs (d .body)) last
+      wrote : Wrote i (s .code) (r .code)
       within : last ≤ k
       size : length (r .names) ≡ 144
 
-    definition-linked : {i : ℕ} {d : SDef} {k : ℕ} → Calls marks nums heads count fs p bodies → DefAt tok n i d k → (s : Linked) → length (s .names) ≡ 144 → length (s .code) ≡ 24582 →
+    definition-linked : {i : ℕ} {d : SDef} {k : ℕ} → Calls marks nums heads count fs p bodies → DefAt tok n i d k → BindsNew (params (d .params)) (term fs (d .body)) → (s : Linked) → length (s .names) ≡ 144 → length (s .code) ≡ 24582 →
         DefLinked s i (on (closingAt marks (on (i + 2) 2)) 1) k d (definitionLinked marks nums ends heads count (i + 2) s)
     unfolding definitionLinked
-    definition-linked {i} c (defineAt {j = j} {k = k} {xs = xs} {t = u} o w f b x few s′ e) s z1 z2 =
+    definition-linked {i} c (defineAt {j = j} {k = k} {xs = xs} {t = u} o w f b x few s′ e) new s z1 z2 =
         let q = t .few in let y = params-count x in let y0 = y .0 in let y1 = y .1 in let ob = o .below in let eb = e .below in let fb = f .below in
         let a : on (i + 2) 2 ≡ i + 4 = omega arith in
         let g = closing-at x in
@@ -84,14 +71,14 @@ module _ {tok : ℕ → Token} {n : ℕ} {marks nums ends : List ℕ} (t : Token
         let l : j - (i + 4) ≡ length (params xs) = omega arith in
         let n0 : length (params xs) ≤ 16 = omega (arith, few, length-params xs) in
         let h0 : Names tok n (s .names) 0 (length (params xs) + 126) [] = record { are = noNames; count = refl; size = z1; room = omega arith } in
-        let r = params-linked 0 126 [] (s .names) (s .code) x h0 z2 in
-        let v = parametersLinked marks nums (length (params xs)) (i + 4) 0 (s .names) (s .code) in
-        let r2 = term-linked t heads count fs p bodies c s′ (v .used) (reach [] (params xs)) (linked (v .names) (v .code)) (r .reach) (r .wrote .long ∙ z2) in
+        let r = params-named 0 126 [] (s .names) x h0 in
+        let v = parametersNamed (length (params xs)) (i + 4) 0 (s .names) in
+        let r2 = term-linked t heads count fs p bodies c s′ (v .used) (params xs) (linked (v .names) (s .code)) new r z2 in
         let tg = term-goes-on p bodies _ (r2 .term) in
         rw (a, g, m, l) (record {
           last = k;
           term = r2 .term;
-          wrote = wrote-then (wider (r .wrote) (omega arith) (omega arith)) (wider (r2 .wrote) (omega arith) (omega arith));
+          wrote = wider (r2 .wrote) (omega arith);
           within = omega arith;
           size = r2 .reach .size;
         })
@@ -170,19 +157,19 @@ module _ {tok : ℕ → Token} {n : ℕ} {marks nums ends : List ℕ} (t : Token
     long : length (r .code) ≡ length (s .code)
     beyond : (m : ℕ) → 16388 ≤ m → getD (r .code) m 0 ≡ getD (s .code) m 0
 
-  defs-linked : {heads : List ℕ} {j a b′ : ℕ} {ds : List SDef} (count : ℕ) (fs : List ℕ) (p : Prog) → Calls marks nums heads count fs p (bodiesOf marks heads) → DefsFrom tok n heads j a ds b′ →
+  defs-linked : {heads : List ℕ} {j a b′ : ℕ} {ds : List SDef} (count : ℕ) (fs : List ℕ) (p : Prog) → Calls marks nums heads count fs p (bodiesOf marks heads) → DefsFrom tok n heads j a ds b′ → AllBindNew (progOf fs ds) →
       (s : Linked) → length (s .names) ≡ 144 → length (s .code) ≡ 24582 → DefsLinked p (bodiesOf marks heads) fs s j a ds (definitionsLinked marks nums ends heads count (length ds) j s)
   unfolding definitionsLinked
-  defs-linked count fs p c (noneFrom q) s z1 z2 = record { stand = noBodies; kept = λ m l. refl; long = refl; beyond = λ m l. refl }
-  defs-linked {heads} {j} {a} count fs p c (moreFrom {i = i} {k = k} {d = d} {ds = ds} b x h more) s z1 z2 =
-      let r1 = definition-linked t heads count fs p (bodiesOf marks heads) c x s z1 z2 in
+  defs-linked count fs p c (noneFrom q) new s z1 z2 = record { stand = noBodies; kept = λ m l. refl; long = refl; beyond = λ m l. refl }
+  defs-linked {heads} {j} {a} count fs p c (moreFrom {i = i} {k = k} {d = d} {ds = ds} b x h more) new s z1 z2 =
+      let r1 = definition-linked t heads count fs p (bodiesOf marks heads) c x (new .0) s z1 z2 in
       let s1 = definitionLinked marks nums ends heads count (i + 2) s in
-      let r2 = defs-linked count fs p c more s1 (r1 .size) (r1 .wrote .long ∙ z2) in
+      let r2 = defs-linked count fs p c more (new .1) s1 (r1 .size) (r1 .wrote .long ∙ z2) in
       let w = r1 .within in let g = def-goes-on x in
       let e : bodiesOf marks heads j ≡ on (closingAt marks (on (i + 2) 2)) 1 = ap (λ (u : ℕ). on (closingAt marks (on u 2)) 1) h in
       let tm = term-agrees p (bodiesOf marks heads) _ (r1 .term) (record { same = λ m l1 l2. r2 .kept m (omega arith) }) in
       subst (λ (u : ℕ). DefsLinked p (bodiesOf marks heads) fs s j a (d ∷ ds) (definitionsLinked marks nums ends heads count (length ds) (j + 1) (definitionLinked marks nums ends heads count u s))) (inv h) (record {
-        stand = moreBodies (subst (λ (u : ℕ). TermLinked p (bodiesOf marks heads) (definitionsLinked marks nums ends heads count (length ds) (j + 1) s1 .code) (reach [] (params (d .params))) u (term fs (d .body)) (r1 .last)) (inv e) tm) (r2 .stand);
+        stand = moreBodies (subst (λ (u : ℕ). TermLinked p (bodiesOf marks heads) (definitionsLinked marks nums ends heads count (length ds) (j + 1) s1 .code) (params (d .params)) u (term fs (d .body)) (r1 .last)) (inv e) tm) (r2 .stand);
         kept = λ m l. r2 .kept m (omega arith) ∙ r1 .wrote .before m (omega arith);
         long = r2 .long ∙ r1 .wrote .long;
         beyond = λ m l. r2 .beyond m l ∙ r1 .wrote .beyond m l;
@@ -192,17 +179,17 @@ module _ {tok : ℕ → Token} {n : ℕ} {marks nums ends : List ℕ} (t : Token
       def-goes-on (defineAt o w f q x few s e) = let y = params-count x .0 in let z = term-bounds tok n s .0 in omega arith
 
   -- "program: one or more of `(define F [x ..] t)`": all of them linked, by where their bodies start
-  pub program-linked : {heads : List ℕ} {ds : List SDef} {b′ : ℕ} (count : ℕ) (code : List ℕ) → DefsFrom tok n heads 0 0 ds b′ → count ≡ length ds → length ds ≤ 64 → length code ≡ 24582 →
+  pub program-linked : {heads : List ℕ} {ds : List SDef} {b′ : ℕ} (count : ℕ) (code : List ℕ) → DefsFrom tok n heads 0 0 ds b′ → count ≡ length ds → length ds ≤ 64 → length code ≡ 24582 → AllBindNew (progOf (functions ds) ds) →
       ProgramLinked (progOf (functions ds) ds) (bodiesOf marks heads) (programLinked marks nums ends heads count code)
-  program-linked {heads} {ds} count code h c few z =
+  program-linked {heads} {ds} count code h c few z new =
       let m : min count 64 ≡ length ds = omega arith in
-      let r = defs-linked count (functions ds) (progOf (functions ds) ds) (calls-known count h c few) h (linked (replicate 144 0) code) (length-replicate {A = ℕ} 144 0) z in
+      let r = defs-linked count (functions ds) (progOf (functions ds) ds) (calls-known count h c few) h new (linked (replicate 144 0) code) (length-replicate {A = ℕ} 144 0) z in
       subst (λ (k : ℕ). ProgramLinked (progOf (functions ds) ds) (bodiesOf marks heads) (definitionsLinked marks nums ends heads count k 0 (linked (replicate 144 0) code) .code)) (inv m) (r .stand)
 
   -- .. in cells that are as many as before, and nothing behind them changes
-  pub program-kept : {heads : List ℕ} {ds : List SDef} {b′ : ℕ} (count : ℕ) (code : List ℕ) → DefsFrom tok n heads 0 0 ds b′ → count ≡ length ds → length ds ≤ 64 → length code ≡ 24582 →
+  pub program-kept : {heads : List ℕ} {ds : List SDef} {b′ : ℕ} (count : ℕ) (code : List ℕ) → DefsFrom tok n heads 0 0 ds b′ → count ≡ length ds → length ds ≤ 64 → length code ≡ 24582 → AllBindNew (progOf (functions ds) ds) →
       (let g = programLinked marks nums ends heads count code in (length g ≡ 24582) × ((m : ℕ) → 16388 ≤ m → getD g m 0 ≡ getD code m 0))
-  program-kept {heads} {ds} count code h c few z =
+  program-kept {heads} {ds} count code h c few z new =
       let m : min count 64 ≡ length ds = omega arith in
-      let r = defs-linked count (functions ds) (progOf (functions ds) ds) (calls-known count h c few) h (linked (replicate 144 0) code) (length-replicate {A = ℕ} 144 0) z in
+      let r = defs-linked count (functions ds) (progOf (functions ds) ds) (calls-known count h c few) h new (linked (replicate 144 0) code) (length-replicate {A = ℕ} 144 0) z in
       subst (λ (k : ℕ). let g = definitionsLinked marks nums ends heads count k 0 (linked (replicate 144 0) code) .code in (length g ≡ 24582) × ((m : ℕ) → 16388 ≤ m → getD g m 0 ≡ getD code m 0)) (inv m) (r .long ∙ z, r .beyond)

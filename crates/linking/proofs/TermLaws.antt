@@ -1,11 +1,9 @@
 -- A term that stands in the tokens stands linked in the code that linking leaves, with the names in reach at each of its parts.
-use Prim.Native.Nat.{ℕ, zero, suc, _+_, _-_, _*_, _%_, _≤_, _<_, min}
-use mathlib.Core.Path.{_≡_, refl, ap, ap₂, subst, _∙_, sym as inv}
-use mathlib.Core.Bool.{Bool, true, false, cond}
+use Prim.Native.Nat.{ℕ, suc, _+_, _-_, _≤_, _<_}
+use mathlib.Core.Path.{_≡_, subst, _∙_}
 use mathlib.Core.List.{List, [], _∷_, _++_}
 use native.Mathlib.Omega.{arith}
-use lib.Dec.{eqb, ltb}
-use lib.ListN.{length, getD, length-append}
+use lib.ListN.{length, getD}
 use Rattle.language.specs.Tokens.{ename, aname, ofProgram, Token}
 use Rattle.language.specs.Program.{eqa, consp, Term, conditional, Param, pe, pa, Prog}
 use Rattle.language.specs.Source.{SExp, STerm, exp, term}
@@ -14,28 +12,21 @@ use Rattle.syntax.proofs.EndsLaws.{exp-end, condition-end, term-end}
 use Rattle.syntax.proofs.Placed.{exp-placed, condition-placed, term-placed}
 use Rattle.syntax.proofs.CheckLaws.{exp-least}
 use Rattle.syntax.proofs.ProgramLaws.{term-bounds}
-use Rattle.linking.specs.declared.code.Link.{Link}
 use Rattle.linking.specs.twins.Code.{link, linkAt, withLink}
-use Rattle.linking.specs.twins.Linking.{on, keyOf, Linked, linked, LinksLeft, formOf, ifLink, boundLink, trueNames, falseNames, rangeLinked, termLinked}
-use Rattle.linking.specs.twins.Linked.{placeIn, withName, TermLinked, sameLinked, testLinked}
-use Rattle.linking.proofs.CodeLaws.{Agree, Wrote, with-long, with-same, with-other, with-wrote, wider, wrote-then, range-wrote, range-at}
-use Rattle.linking.proofs.AgreeLaws.{before-agrees, behind-agrees, exp-agrees, exp-goes-on, term-goes-on, term-agrees}
-use Rattle.linking.proofs.TokenLaws.{TokensIn, IsName, eName, aName, NamesAre, noNames, moreNames, linkOf, word-key}
-use Rattle.linking.proofs.NameLaws.{Names, names-less}
+use Rattle.linking.specs.twins.Linking.{on, keyOf, Linked, linked, formOf, ifLink, pushedName, trueNames, falseNames, rangeLinked, termLinked}
+use Rattle.linking.specs.twins.Linked.{withName, TermLinked, sameLinked, testLinked}
+use Rattle.linking.proofs.CodeLaws.{with-long, with-same, with-wrote, wider, wrote-then, range-wrote, range-at}
+use Rattle.linking.proofs.AgreeLaws.{before-agrees, exp-agrees, term-agrees}
+use Rattle.linking.proofs.TokenLaws.{TokensIn, eName, aName, NamesAre, noNames, moreNames, linkOf, word-key}
+use Rattle.linking.proofs.NameLaws.{Names, names-less, name-pushed}
+use Rattle.linking.proofs.NewNames.{BindsNew}
 use Rattle.linking.proofs.ExpressionLaws.{exp-linked}
-use Rattle.linking.proofs.TermParts.{on-in, LinkedTo, Calls, result-linked, call-linked, NameLinked, name-linked}
+use Rattle.linking.proofs.TermParts.{on-in, LinkedTo, Calls, result-linked, call-linked}
 
 -- names without the last
 front : {tok : ℕ → Token} {n : ℕ} {names : List ℕ} {j : ℕ} (xs ys : List Param) → NamesAre tok n names j (xs ++ ys) → NamesAre tok n names j xs
 front [] ys h = noNames
 front (x ∷ xs) ys (moreNames is hs) = moreNames is (front xs ys hs)
-
-before-name : {tok : ℕ → Token} {n : ℕ} {names : List ℕ} (x : Param) (sc : List Param) → NamesAre tok n names 0 (withName x sc) → NamesAre tok n names 0 sc
-before-name {tok} {n} {names} x sc h = go (ltb (placeIn x sc) (length sc)) h
-  where
-    go : (b : Bool) → NamesAre tok n names 0 (cond b sc (sc ++ (x ∷ []))) → NamesAre tok n names 0 sc
-    go true h = h
-    go false h = front sc (x ∷ []) h
 
 module _ {tok : ℕ → Token} {n : ℕ} {marks nums ends : List ℕ} (t : TokensIn tok n marks nums ends) (heads : List ℕ) (count : ℕ) (fs : List ℕ) (p : Prog) (bodies : ℕ → ℕ) where
   abbrev again : ℕ → ℕ → ℕ → Linked → Linked
@@ -43,7 +34,7 @@ module _ {tok : ℕ → Token} {n : ℕ} {marks nums ends : List ℕ} (t : Token
 
   -- what linking does with a term, whatever names are in reach
   abbrev Law : ℕ → ℕ → Term → ℕ → Type 0
-  Law room i u k = (used : ℕ) (sc : List Param) (s : Linked) → Names tok n (s .names) used (room + room) sc → length (s .code) ≡ 24582 →
+  Law room i u k = (used : ℕ) (sc : List Param) (s : Linked) → BindsNew sc u → Names tok n (s .names) used (room + room) sc → length (s .code) ≡ 24582 →
       LinkedTo tok n p bodies sc i u k used (room + room) s (again room used i s)
 
   if-form : (i : ℕ) → WordAt tok n "(" i → WordAt tok n "if" (i + 1) → formOf marks i ≡ 7
@@ -67,7 +58,7 @@ module _ {tok : ℕ → Token} {n : ℕ} {marks nums ends : List ℕ} (t : Token
       ExpAt tok n ofProgram room (i + 4) c j → ExpAt tok n ofProgram room j d m → getD ends (i + 2) 0 ≡ m + 1 → getD ends (m + 1) 0 ≡ fa → getD ends i 0 ≡ k + 1 → m + 1 < fa → fa < k → k < n →
       Law room (m + 1) u fa → Law room fa v k → Law (suc room) i (conditional (eqa (exp c) (exp d)) u v) (k + 1)
   unfolding termLinked trueNames falseNames
-  same-linked {room} {i} {j} {m} {fa} {k} o w q x y e1 e2 e3 l1 l2 l3 f g used sc s h z =
+  same-linked {room} {i} {j} {m} {fa} {k} o w q x y e1 e2 e3 l1 l2 l3 f g used sc s new h z =
       let few = t .few in let a = exp-least x in let b = exp-least y in let r = h .room in
       let l = link 4 (m + 1) fa (k + 1) in
       let c1 = withLink i l (s .code) in
@@ -75,9 +66,9 @@ module _ {tok : ℕ → Token} {n : ℕ} {marks nums ends : List ℕ} (t : Token
       let z1 = with-long i l (s .code) ∙ z in
       let v2 = range-wrote marks nums ends (s .names) used (m + 1 - (i + 4)) (i + 4) c1 in
       let h1 : Names tok n (s .names) used (room + room) sc = names-less (omega arith) h in
-      let r1 = f used sc (linked (s .names) c2) h1 (v2 .long ∙ z1) in
+      let r1 = f used sc (linked (s .names) c2) (new .0) h1 (v2 .long ∙ z1) in
       let t1 = again room used (m + 1) (linked (s .names) c2) in
-      let r2 = g used sc (linked (t1 .names) (t1 .code)) (r1 .reach) (r1 .wrote .long ∙ v2 .long ∙ z1) in
+      let r2 = g used sc (linked (t1 .names) (t1 .code)) (new .1) (r1 .reach) (r1 .wrote .long ∙ v2 .long ∙ z1) in
       let t2 = again room used fa (linked (t1 .names) (t1 .code)) in
       let each : (n1 : ℕ) → i + 4 ≤ n1 → n1 < m + 1 → linkAt c2 n1 ≡ linkOf t (s .names) used n1 = (λ n1 p1 p2. range-at marks nums ends (s .names) used (m + 1 - (i + 4)) (i + 4) c1 (omega arith) z1 n1 p1 (omega arith)) in
       let ex = exp-linked t h c2 x (λ n1 p1 p2. each n1 (omega arith) (omega arith)) in
@@ -89,7 +80,7 @@ module _ {tok : ℕ → Token} {n : ℕ} {marks nums ends : List ℕ} (t : Token
             (exp-agrees _ sc (exp-agrees _ sc ey (before-agrees (r1 .wrote) (omega arith))) (before-agrees (r2 .wrote) (omega arith)))
             (term-agrees p bodies _ (r1 .term) (before-agrees (r2 .wrote) (omega arith)))
             (r2 .term);
-        wrote = wrote-then (wrote-then (wrote-then (wider (with-wrote i l (s .code)) (omega arith) (omega arith)) (wider v2 (omega arith) (omega arith))) (wider (r1 .wrote) (omega arith) (omega arith))) (wider (r2 .wrote) (omega arith) (omega arith));
+        wrote = wrote-then (wrote-then (wrote-then (with-wrote i l (s .code)) (wider v2 (omega arith))) (wider (r1 .wrote) (omega arith))) (wider (r2 .wrote) (omega arith));
         reach = record { are = r2 .reach .are; count = h .count; size = r2 .reach .size; room = r };
       })
 
@@ -99,7 +90,7 @@ module _ {tok : ℕ → Token} {n : ℕ} {marks nums ends : List ℕ} (t : Token
       getD ends (i + 2) 0 ≡ j + 4 → getD ends (j + 4) 0 ≡ fa → getD ends i 0 ≡ k + 1 → getD ends (i + 4) 0 ≡ j → j + 4 < fa → fa < k → k < n →
       Law room (j + 4) u fa → Law room fa v k → Law (suc room) i (conditional (consp (exp c) (tok j .num) (tok (j + 1) .num) (tok (j + 2) .num)) u v) (k + 1)
   unfolding termLinked trueNames falseNames
-  test-linked {room} {i} {j} {fa} {k} o w q x nh nt na e1 e2 e3 e4 l1 l2 l3 f g used sc s h z =
+  test-linked {room} {i} {j} {fa} {k} o w q x nh nt na e1 e2 e3 e4 l1 l2 l3 f g used sc s new h z =
       let few = t .few in let a = exp-least x in let r = h .room in
       let xh = pe (tok j .num) in let xt = pe (tok (j + 1) .num) in let xa = pa (tok (j + 2) .num) in
       let l = link 5 (j + 4) fa (k + 1) in
@@ -109,44 +100,32 @@ module _ {tok : ℕ → Token} {n : ℕ} {marks nums ends : List ℕ} (t : Token
       let v2 = range-wrote marks nums ends (s .names) used (j + 4 - (i + 4)) (i + 4) c1 in
       let z2 = v2 .long ∙ z1 in
       let h0 : Names tok n (s .names) used (suc (suc (room + room))) sc = names-less (omega arith) h in
-      let n1 = name-linked t heads count fs p bodies {code = c2} h0 (eName nh) (nh .below) z2 in
-      let w1 = boundLink marks nums used j (s .names) c2 in
-      let z3 = n1 .wrote .long ∙ z2 in
-      let n2 = name-linked t heads count fs p bodies {code = w1 .code} (n1 .reach) (eName nt) (nt .below) z3 in
-      let w2 = boundLink marks nums (w1 .used) (j + 1) (w1 .names) (w1 .code) in
-      let z4 = n2 .wrote .long ∙ z3 in
-      let r1 = f (w2 .used) (withName xt (withName xh sc)) (linked (w2 .names) (w2 .code)) (n2 .reach) z4 in
-      let t1 = again room (w2 .used) (j + 4) (linked (w2 .names) (w2 .code)) in
-      let z5 = r1 .wrote .long ∙ z4 in
+      let w1 = pushedName used j (s .names) in
+      let w2 = pushedName (w1 .used) (j + 1) (w1 .names) in
+      let n2 = name-pushed (name-pushed h0 (eName nh)) (eName nt) in
+      let r1 = f (w2 .used) (withName xt (withName xh sc)) (linked (w2 .names) c2) (new .3) n2 z2 in
+      let t1 = again room (w2 .used) (j + 4) (linked (w2 .names) c2) in
       let h1 : Names tok n (t1 .names) used (suc (room + room)) sc =
-      record { are = before-name xh sc (before-name xt (withName xh sc) (r1 .reach .are)); count = h .count; size = r1 .reach .size; room = omega arith } in
-      let n3 = name-linked t heads count fs p bodies {code = t1 .code} h1 (aName na) (na .below) z5 in
-      let w3 = boundLink marks nums used (j + 2) (t1 .names) (t1 .code) in
-      let z6 = n3 .wrote .long ∙ z5 in
-      let r2 = g (w3 .used) (withName xa sc) (linked (w3 .names) (w3 .code)) (n3 .reach) z6 in
-      let t2 = again room (w3 .used) fa (linked (w3 .names) (w3 .code)) in
+      record { are = front sc (xh ∷ []) (front (withName xh sc) (xt ∷ []) (r1 .reach .are)); count = h .count; size = r1 .reach .size; room = omega arith } in
+      let w3 = pushedName used (j + 2) (t1 .names) in
+      let r2 = g (w3 .used) (withName xa sc) (linked (w3 .names) (t1 .code)) (new .4) (name-pushed h1 (aName na)) (r1 .wrote .long ∙ z2) in
       let ex = exp-linked t h c2 x (λ m p1 p2. range-at marks nums ends (s .names) used (j + 4 - (i + 4)) (i + 4) c1 (omega arith) z1 m p1 (omega arith)) in
       let b1 = on-in j 1 (omega arith) (omega arith) in let b2 = on-in j 2 (omega arith) (omega arith) in
       rw (if-form i o w, test-link i (j + 4) fa (k + 1) (q .below) (omega arith) q e1 e2 e3, on-in i 4 (omega arith) (omega arith), e4, b1, b2) (record {
         term = testLinked
-            (r2 .wrote .before i (omega arith) ∙ n3 .wrote .before i (omega arith) ∙ r1 .wrote .before i (omega arith) ∙ n2 .wrote .before i (omega arith) ∙ n1 .wrote .before i (omega arith) ∙ v2 .before i (omega arith) ∙ with-same i l (s .code) (omega arith) z)
-            (exp-agrees _ sc (exp-agrees _ sc (exp-agrees _ sc (exp-agrees _ sc (exp-agrees _ sc ex (before-agrees (n1 .wrote) (omega arith))) (before-agrees (n2 .wrote) (omega arith))) (before-agrees (r1 .wrote) (omega arith)))
-            (before-agrees (n3 .wrote) (omega arith))) (before-agrees (r2 .wrote) (omega arith)))
-            (r2 .wrote .before j (omega arith) ∙ n3 .wrote .before j (omega arith) ∙ r1 .wrote .before j (omega arith) ∙ n2 .wrote .before j (omega arith) ∙ n1 .at)
-            (r2 .wrote .before (j + 1) (omega arith) ∙ n3 .wrote .before (j + 1) (omega arith) ∙ r1 .wrote .before (j + 1) (omega arith) ∙ n2 .at ∙ ap (λ (m : ℕ). link 2 (placeIn xt (withName xh sc)) 0 m) (omega arith))
-            (r2 .wrote .before (j + 2) (omega arith) ∙ n3 .at ∙ ap (λ (m : ℕ). link 2 (placeIn xa sc) 0 m) (omega arith))
-            (term-agrees p bodies _ (term-agrees p bodies _ (r1 .term) (behind-agrees (n3 .wrote) (omega arith))) (before-agrees (r2 .wrote) (omega arith)))
+            (r2 .wrote .before i (omega arith) ∙ r1 .wrote .before i (omega arith) ∙ v2 .before i (omega arith) ∙ with-same i l (s .code) (omega arith) z)
+            (exp-agrees _ sc (exp-agrees _ sc ex (before-agrees (r1 .wrote) (omega arith))) (before-agrees (r2 .wrote) (omega arith)))
+            (new .0) (new .1) (new .2)
+            (term-agrees p bodies _ (r1 .term) (before-agrees (r2 .wrote) (omega arith)))
             (r2 .term);
-        wrote = wrote-then (wrote-then (wrote-then (wrote-then (wrote-then (wrote-then (wider (with-wrote i l (s .code)) (omega arith) (omega arith)) (wider v2 (omega arith) (omega arith)))
-            (wider (n1 .wrote) (omega arith) (omega arith))) (wider (n2 .wrote) (omega arith) (omega arith))) (wider (r1 .wrote) (omega arith) (omega arith))) (wider (n3 .wrote) (omega arith) (omega arith)))
-            (wider (r2 .wrote) (omega arith) (omega arith));
-        reach = record { are = before-name xa sc (r2 .reach .are); count = h .count; size = r2 .reach .size; room = r };
+        wrote = wrote-then (wrote-then (wrote-then (with-wrote i l (s .code)) (wider v2 (omega arith))) (wider (r1 .wrote) (omega arith))) (wider (r2 .wrote) (omega arith));
+        reach = record { are = front sc (xa ∷ []) (r2 .reach .are); count = h .count; size = r2 .reach .size; room = r };
       })
 
   module _ (d : Calls marks nums heads count fs p bodies) where
     pub term-linked : {room i : ℕ} {u : STerm} {k : ℕ} → TermAt tok n room i u k → Law room i (term fs u) k
-    term-linked (callAt o w f b x c) = λ used sc s h z. call-linked t heads count fs p bodies s d o w f b x c h z
-    term-linked (resultAt x) = λ used sc s h z. result-linked t heads count fs p bodies s x h z
+    term-linked (callAt o w f b x c) = λ used sc s new h z. call-linked t heads count fs p bodies s d o w f b x c h z
+    term-linked (resultAt x) = λ used sc s new h z. result-linked t heads count fs p bodies s x h z
     term-linked {i = i} (ifAt {room = rm} {k = fa} {m = k} o w (eqaAt {j = j} {k = m} {c = ce} ob wb x y cb) s u c) =
         let y1 = exp-least x in let y2 = exp-least y in let y3 = term-bounds tok n s in let y4 = term-bounds tok n u in let y5 = y3 .0 in let y6 = y4 .0 in let l = c .below in
         let q1 : i + 2 + 1 ≡ i + 3 = omega arith in let q2 : i + 2 + 2 ≡ i + 4 = omega arith in

@@ -1,4 +1,4 @@
--- The parts of a term by themselves: an expression as a term, a call, the names that a `cons?` binds.
+-- The parts of a term by themselves: an expression as a term, a call.
 use Prim.Native.Nat.{ℕ, zero, suc, _+_, _-_, _*_, _%_, _≤_, _<_, min}
 use Prim.Native.String.{String}
 use mathlib.Core.Path.{_≡_, refl, ap, ap₂, subst, _∙_, sym as inv}
@@ -21,12 +21,12 @@ use Rattle.syntax.proofs.Placed.{exp-placed, term-placed}
 use Rattle.syntax.proofs.CheckLaws.{exp-least, exp-most}
 use Rattle.linking.specs.declared.code.Link.{Link}
 use Rattle.linking.specs.twins.Code.{link, linkAt, withLink}
-use Rattle.linking.specs.twins.Linking.{on, keyOf, Linked, linked, LinksLeft, headOf, closingAt, formOf, callLink, boundName, boundLink, tokenLink, rangeLinked, range, called, termLinked}
-use Rattle.linking.specs.twins.Linked.{placeIn, withName, ExpLinked, ExpsLinked, TermLinked, callLinked, resultLinked}
-use Rattle.linking.proofs.CodeLaws.{Agree, Wrote, with-long, with-same, with-other, with-wrote, wrote-none, wider, wrote-then, range-wrote, range-at}
+use Rattle.linking.specs.twins.Linking.{on, keyOf, Linked, linked, headOf, closingAt, formOf, callLink, tokenLink, rangeLinked, range, called, termLinked}
+use Rattle.linking.specs.twins.Linked.{ExpLinked, ExpsLinked, TermLinked, callLinked, resultLinked}
+use Rattle.linking.proofs.CodeLaws.{Agree, Wrote, with-long, with-same, with-other, with-wrote, wrote-then, range-wrote, range-at}
 use Rattle.linking.proofs.TokenLaws.{TokensIn, IsName, eName, aName, NamesAre, noNames, moreNames, linkOf, word-key}
-use Rattle.linking.proofs.NameLaws.{Names, names-less, names-kept, place-most, BoundTo, bound-to}
-use Rattle.linking.proofs.ExpressionLaws.{Each, below-cell, exp-linked, exps-least, exps-linked}
+use Rattle.linking.proofs.NameLaws.{Names}
+use Rattle.linking.proofs.ExpressionLaws.{Each, exp-linked, exps-least, exps-linked}
 
 pub on-in : (i k : ℕ) → i ≤ 4097 → k ≤ 4097 → on i k ≡ i + k
 on-in i k a b = omega arith
@@ -34,7 +34,7 @@ on-in i k a b = omega arith
 -- What linking a term leaves: the term linked, nothing written outside it, and the names that were in reach.
 pub record LinkedTo (tok : ℕ → Token) (n : ℕ) (p : Prog) (bodies : ℕ → ℕ) (sc : List Param) (i : ℕ) (t : Term) (k used m : ℕ) (s r : Linked) : Type 0 where
   pub term : TermLinked p bodies (r .code) sc i t k
-  pub wrote : Wrote i k (s .code) (r .code)
+  pub wrote : Wrote i (s .code) (r .code)
   pub reach : Names tok n (r .names) used m sc
 
 -- Where the definition of a function stands: as many parameters, and its body.
@@ -64,10 +64,9 @@ module _ {tok : ℕ → Token} {n : ℕ} {marks nums ends : List ℕ} (t : Token
   result-linked {i = i} {c} {k} {used} s x h e =
       let l = exp-least x in let m = exp-most x in let f = t .few in let b : i < n = omega arith in
       let z : getD ends i 0 ≡ k = t .ended i b ∙ exp-end tok n (t .unbracketed) (exp-placed x) in
-      let y : i + (k - i) ≡ k = omega arith in
       rw (exp-range used s x, z) (record {
         term = resultLinked (exp-linked t h _ x (λ j a d. range-at marks nums ends (s .names) used (k - i) i (s .code) (omega arith) e j a (omega arith)));
-        wrote = subst (λ (u : ℕ). Wrote i u (s .code) (rangeLinked marks nums ends (s .names) used (k - i) i (s .code))) y (range-wrote marks nums ends (s .names) used (k - i) i (s .code));
+        wrote = range-wrote marks nums ends (s .names) used (k - i) i (s .code);
         reach = h;
       })
 
@@ -93,33 +92,12 @@ module _ {tok : ℕ → Token} {n : ℕ} {marks nums ends : List ℕ} (t : Token
   call-linked {room} {i} {k} {used} s d o w f b x c h e =
       let q = t .few in let y = exps-least t h (s .code) x in let y0 = y .0 in let y1 = y .1 in let c1 = c .below in let o1 = o .below in
       let z : getD ends i 0 ≡ k + 2 = t .ended i (o .below) ∙ term-end tok n (t .unbracketed) (term-placed fs (callAt o w f b x c)) in
-      let u : i + (k + 2 - i) ≡ k + 2 = omega arith in
       let g = rangeLinked marks nums ends (s .names) used (k + 2 - i) i (s .code) in
-      let v : Wrote i (i + (k + 2 - i)) (s .code) g = range-wrote marks nums ends (s .names) used (k + 2 - i) i (s .code) in
+      let v : Wrote i (s .code) g = range-wrote marks nums ends (s .names) used (k + 2 - i) i (s .code) in
       let l = callLink marks nums ends heads count i in
       rw (call-form i o w, z) (record {
         term = callLinked (λ a. with-same i l g (omega arith) (v .long ∙ e) ∙ call-link i (k + 2) d f z (f .below) a)
             (exps-linked t h (withLink i l g) x (λ j a r. with-other i j l g (λ n. omega arith) ∙ range-at marks nums ends (s .names) used (k + 2 - i) i (s .code) (omega arith) e j (omega arith) (omega arith)));
-        wrote = wrote-then (wider v (omega arith) (omega arith)) (wider (with-wrote i l g) (omega arith) (omega arith));
+        wrote = wrote-then v (with-wrote i l g);
         reach = h;
       })
-
-  -- a name that a `cons?` binds, or a parameter: its place, and the names in reach then
-  pub record NameLinked (names code : List ℕ) (used m i : ℕ) (sc : List Param) (x : Param) (w : LinksLeft) : Type 0 where
-    pub at : linkAt (w .code) i ≡ link 2 (placeIn x sc) 0 (i + 1)
-    pub wrote : Wrote i (i + 1) code (w .code)
-    pub reach : Names tok n (w .names) (w .used) m (withName x sc)
-
-  pub name-linked : {names code : List ℕ} {used m i : ℕ} {sc : List Param} {x : Param} → Names tok n names used (suc m) sc → IsName tok n i x → i < n → length code ≡ 24582 →
-      NameLinked names code used m i sc x (boundLink marks nums used i names code)
-  unfolding boundLink
-  name-linked {names} {code} {used} {m} {i} {sc} {x} h is l e =
-      let q = t .few in let w = bound-to t h is in let c = h .count in let r = h .room in let k = place-most x sc in
-      let v = boundName marks nums used i names .bound .place in
-      let a : v % 65536 ≡ placeIn x sc = ap (λ (z : ℕ). z % 65536) (w .place) ∙ below-cell (placeIn x sc) (omega arith) in
-      let b : on i 1 % 65536 ≡ i + 1 = omega arith in
-      record {
-        at = with-same i _ code (omega arith) e ∙ rw (a, b);
-        wrote = with-wrote i _ code;
-        reach = w .reach;
-      }

@@ -8,8 +8,8 @@
 //     SAME     true branch  false branch   the index past the `if`; the first side of its `eqa?` begins four tokens on
 //     TEST     true branch  false branch   the index past the `if`; what its `cons?` tests begins four tokens on
 //
-// A name's place is counted from the first name in reach: the parameters in order, then what each `cons?` on the way binds. A name bound again
-// has the place that it had.
+// A name's place is counted from the first name in reach: the parameters in order, then what each `cons?` on the way binds. The tokens at which names
+// are bound need no link: a name that is bound comes behind those in reach.
 ghost use mathlib.Core.Path.{_≡_};
 ghost use Rattle.linking.specs.twins.Code.{linkAt, withLink};
 

@@ -1,5 +1,5 @@
 // The whole program: each definition with its parameters in reach.
-use crate::names::link_name;
+use crate::names::push_name;
 use crate::terms::Reach;
 use crate::terms::closing;
 use crate::terms::link_term;
@@ -7,23 +7,16 @@ use crate::tokens::on;
 use cells::cell;
 ghost use mathlib.Core.Path.{_≡_};
 ghost use Prim.Native.Nat.{_-_};
-ghost use Rattle.linking.specs.twins.Linking.{linksLeft, linked, parametersLinked, definitionLinked, programLinked, programEnd};
+ghost use Rattle.linking.specs.twins.Linking.{namesLeft, linked, parametersNamed, definitionLinked, programLinked, programEnd};
 
-// The parameters from p up to `to`, in order: how many are in reach then.
-fn link_parameters(
-    marks: &[u16],
-    nums: &[u16],
-    names: &mut [usize; 144],
-    code: &mut [u16; 24582],
-    p: usize,
-    to: usize,
-) -> usize
-    ensures { λ r. ⌜ linksLeft r (now (names .exit)) (now (code .exit)) ≡ parametersLinked (now (marks .entry)) (now (nums .entry)) (to - p) p 0 (now (names .entry)) (now (code .entry)) ⌝ }
+// The parameters from p up to `to` come into reach, in order: how many are in reach then.
+fn push_parameters(names: &mut [usize; 144], p: usize, to: usize) -> usize
+    ensures { λ r. ⌜ namesLeft r (now (names .exit)) ≡ parametersNamed (to - p) p 0 (now (names .entry)) ⌝ }
 {
     let mut used: usize = 0;
     let mut i = p;
     while i < to {
-        used = link_name(marks, nums, names, used, code, i);
+        used = push_name(names, used, i);
         i += 1;
     }
     used
@@ -44,7 +37,7 @@ fn link_definition(
 {
     let open = on(h, 2);
     let close = closing(marks, open);
-    let used = link_parameters(marks, nums, names, code, open, close);
+    let used = push_parameters(names, open, close);
     let reach = Reach {
         room: 63,
         used: used,

@@ -5,14 +5,14 @@ use crate::code::SAME;
 use crate::code::TEST;
 use crate::code::set_link;
 use crate::expression::link_range;
-use crate::names::link_name;
+use crate::names::push_name;
 use crate::tokens::key;
 use crate::tokens::on;
 use crate::tokens::past;
 use cells::cell;
 use words::keys;
 ghost use mathlib.Core.Path.{_≡_};
-ghost use Rattle.linking.specs.twins.Linking.{formOf, headOf, closingAt, callLink, ifLink, linksLeft, trueNames, falseNames, linked, ifLinked, termLinked};
+ghost use Rattle.linking.specs.twins.Linking.{formOf, headOf, closingAt, callLink, ifLink, namesLeft, trueNames, falseNames, linked, ifLinked, termLinked};
 
 // How many more brackets may be opened, and how many names are in reach.
 pub(crate) struct Reach {
@@ -106,40 +106,24 @@ fn if_link(marks: &[u16], ends: &[u16], i: usize) -> Link
 }
 
 // "The true branch of `cons?` has its two xe": they stand behind what is tested.
-fn true_names(
-    marks: &[u16],
-    nums: &[u16],
-    names: &mut [usize; 144],
-    used: usize,
-    code: &mut [u16; 24582],
-    mark: u16,
-    h: usize,
-) -> usize
-    ensures { λ r. ⌜ linksLeft r (now (names .exit)) (now (code .exit)) ≡ trueNames (now (marks .entry)) (now (nums .entry)) used mark h (now (names .entry)) (now (code .entry)) ⌝ }
+fn true_names(names: &mut [usize; 144], used: usize, mark: u16, h: usize) -> usize
+    ensures { λ r. ⌜ namesLeft r (now (names .exit)) ≡ trueNames used mark h (now (names .entry)) ⌝ }
 {
     if mark == SAME {
         return used;
     }
-    let one = link_name(marks, nums, names, used, code, h);
-    link_name(marks, nums, names, one, code, on(h, 1))
+    let one = push_name(names, used, h);
+    push_name(names, one, on(h, 1))
 }
 
 // "the false branch its xa".
-fn false_names(
-    marks: &[u16],
-    nums: &[u16],
-    names: &mut [usize; 144],
-    used: usize,
-    code: &mut [u16; 24582],
-    mark: u16,
-    h: usize,
-) -> usize
-    ensures { λ r. ⌜ linksLeft r (now (names .exit)) (now (code .exit)) ≡ falseNames (now (marks .entry)) (now (nums .entry)) used mark h (now (names .entry)) (now (code .entry)) ⌝ }
+fn false_names(names: &mut [usize; 144], used: usize, mark: u16, h: usize) -> usize
+    ensures { λ r. ⌜ namesLeft r (now (names .exit)) ≡ falseNames used mark h (now (names .entry)) ⌝ }
 {
     if mark == SAME {
         return used;
     }
-    link_name(marks, nums, names, used, code, on(h, 2))
+    push_name(names, used, on(h, 2))
 }
 
 // "`(if k t t)`", behind whose bracket `room` brackets may be opened.
@@ -165,13 +149,13 @@ fn link_if(
     let h = past(ends, tested);
     set_link(code, i, l);
     link_range(marks, nums, ends, names, used, code, tested, yes);
-    let one = true_names(marks, nums, names, used, code, l.mark, h);
+    let one = true_names(names, used, l.mark, h);
     let then = Reach {
         room: room,
         used: one,
     };
     link_term(marks, nums, ends, heads, count, names, code, then, yes);
-    let two = false_names(marks, nums, names, used, code, l.mark, h);
+    let two = false_names(names, used, l.mark, h);
     let other = Reach {
         room: room,
         used: two,

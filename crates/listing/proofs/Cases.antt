@@ -1,4 +1,4 @@
--- P1 to P11 of 01, from the bytes of the texts to the bytes that are printed.
+-- P1 to P11 (01, "Printing, and cases"), from the bytes of the texts to the bytes that are printed.
 use Prim.Native.Nat.{ℕ}
 use Prim.Native.String.{String}
 use mathlib.Core.Path.{_≡_, refl}

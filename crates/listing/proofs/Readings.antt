@@ -1,4 +1,5 @@
--- Readings of docs/DECISIONS.md whose texts are accepted, each by texts that tell it from another reading, from bytes to bytes.
+-- Readings of docs/DECISIONS.md whose texts are accepted, and those about 13, each by texts that tell it from another reading, from bytes to
+-- bytes.
 use Prim.Native.Nat.{ℕ, zero, suc}
 use Prim.Native.String.{String}
 use mathlib.Core.Path.{_≡_, refl}
@@ -46,13 +47,11 @@ listings =
     (txt "(job (in 'B) (out 'A) (neq) (steps 9) (walk 9) (table 9))") "whole 1 2\n1 2\n" ∷
     reading 39 (txt "(define f [e.x a.x] 'A)")
     (txt "(job (in 'B 'B) (out 'A) (neq) (steps 9) (walk 9) (table 9))") "whole 1 1\n1 1\n" ∷
-    reading 46 (txt "(define f [e.x a.p] (if (cons? e.x e.h e.t a.p) a.p 'B))")
-    (txt "(job (in (cons 'B 'B) 'A) (out 'A) (neq) (steps 9) (walk 9) (table 9))") "whole 1 2\n1 2\n" ∷
     reading 48 (txt "(define f [e.x e.y] (cons e.x e.y))")
     (txt "(job (in ?e1 ?a1) (out (cons 'A 'B)) (neq) (steps 9) (walk 9) (table 9))") "whole 1 1\n1 1 ?e1='A ?a1='B\n" ∷
     reading 50 anyProgram
     (txt "(job (in ?a1) (out 'A) (neq) (steps 9) (walk 9) (table 9))") "whole 1 1\n1 1 ?a1='A\n" ∷
-    reading 62 (txt "(define f [e.x e.n] (if (cons? e.n e.h e.n a.p) (call f [(cons e.x e.x) e.n]) (if (cons? (cons e.x e.x) e.h e.t a.p) 'A 'B)))")
+    reading 62 (txt "(define f [e.x e.n] (if (cons? e.n e.h e.m a.p) (call f [(cons e.x e.x) e.m]) (if (cons? (cons e.x e.x) e.h e.t a.q) 'A 'B)))")
     (txt "(job (in 'A " ++ times 10 "(cons 'I " ++ txt "'O" ++ times 10 ")" ++ txt ") (out 'A) (neq) (steps 99) (walk 99) (table 9))") "stop21 0 23\n" ∷
     reading 63 (txt "(define m [] (call f ['A]))(define f [e.x] (call f [(cons e.x e.x)]))")
     (txt "(job (in) (out 'A) (neq) (steps 99) (walk 99) (table 9))") "stop21 0 14\n" ∷
@@ -74,11 +73,11 @@ listings =
     (txt "(job (in ?a1) (out 'A) (neq ['B 'C] [?a1 'B] ['B ?a1]) (steps 9) (walk 9) (table 9))") "whole 1 1\n1 1 # ?a1 'B\n" ∷
     reading 72 (txt "(define f [e.x] (if (cons? e.x e.h e.t a.p) 'A 'B))")
     (txt "(job (in ?e1) (out ?e7) (neq) (steps 9) (walk 9) (table 9))") "whole 2 3\n1 2 ?e1=(cons ?e8 ?e9) ?e7='A\n2 2 ?e1=?a10 ?e7='B\n" ∷
-    reading 73 (txt "(define f [e.x] (if (cons? 'A e.h e.t a.p) 'B (if (cons? e.x e.h e.t a.p) 'A 'B)))")
+    reading 73 (txt "(define f [e.x] (if (cons? 'A e.h e.t a.p) 'B (if (cons? e.x e.h e.t a.q) 'A 'B)))")
     (txt "(job (in ?e1) (out 'A) (neq) (steps 9) (walk 9) (table 9))") "whole 1 4\n1 3 ?e1=(cons ?e2 ?e3)\n" ∷
     reading 74 (txt "(define m [] (call f [(cons 'A 'A) 'A]))(define f [e.y e.x] (call f [e.y (cons e.x e.x)]))")
     (txt "(job (in) (out 'A) (neq) (steps 99) (walk 99) (table 9))") "stop21 0 13\n" ∷
-    reading 75 (txt "(define f [e.x e.n] (if (cons? e.n e.h e.n a.p) (call f [(cons e.x e.x) e.n]) e.x))")
+    reading 75 (txt "(define f [e.x e.n] (if (cons? e.n e.h e.m a.p) (call f [(cons e.x e.x) e.m]) e.x))")
     (txt "(job (in 'A " ++ times 10 "(cons 'I " ++ txt "'O" ++ times 10 ")" ++ txt ") (out ?e1) (neq) (steps 99) (walk 99) (table 9))") "stop21 0 22\n" ∷
     reading 76 (txt "(define f [e.x e.n] (if (cons? e.n e.h e.m a.p) (call f [(cons e.x e.x) e.m]) (cons e.x 'B)))")
     (txt "(job (in 'A " ++ times 10 "(cons 'I " ++ txt "'O" ++ times 10 ")" ++ txt ") (out (cons ?e1 'A)) (neq) (steps 99) (walk 99) (table 9))") "stop21 0 22\n" ∷
@@ -102,9 +101,30 @@ listings =
     (txt "(job (in ?e1) (out 'A) (neq) (steps 9) (walk 9) (table 1))") "whole 1 3\n1 2 ?e1=(cons ?e2 ?e3)\n" ∷
     []
 
+-- 02, request 1: a name bound twice in reach
+abbrev rebound : List Reading
+rebound =
+    reading 1 (txt "(define f [e.x a.h] (if (cons? e.x e.h e.t a.p) 'A 'B))")
+    (txt "(job (in 'A 'A) (out 'B) (neq) (steps 9) (walk 9) (table 9))") "whole 1 2\n1 2\n" ∷
+    reading 2 (txt "(define f [e.x a.p] (if (cons? e.x e.h e.t a.p) 'A 'B))")
+    (txt "(job (in 'A 'A) (out 'B) (neq) (steps 9) (walk 9) (table 9))") "refused p 13 43\n" ∷
+    reading 3 (txt "(define f [e.x] (if (cons? e.x e.h e.t a.p) (if (cons? e.h e.u e.v a.p) 'A 'B) 'C))")
+    (txt "(job (in (cons 'A 'A)) (out 'B) (neq) (steps 9) (walk 9) (table 9))") "whole 1 3\n1 3\n" ∷
+    reading 4 (txt "(define f [e.x] (if (cons? e.x e.x e.t a.p) 'A 'B))")
+    (txt "(job (in 'A) (out 'A) (neq) (steps 9) (walk 9) (table 9))") "refused p 13 31\n" ∷
+    reading 5 (txt "(define f [e.x] e.q)(define g [e.x] (if (cons? e.x e.x e.t a.p) 'A 'B))")
+    (txt "(job (in 'A) (out 'A) (neq) (steps 9) (walk 9) (table 9))") "refused p 13 51\n" ∷
+    reading 6 (txt "(define f [e.x] (if (cons? e.x e.x e.x a.p) 'A 'B))")
+    (txt "(job (in 'A) (out 'A) (neq) (steps 9) (walk 9) (table 9))") "refused p 6 35\n" ∷
+    reading 7 (txt "(define f [e.x] e.x)(define g [e.x] (if (cons? e.x e.x e.t a.p) 'A 'B))")
+    (txt "(job (in 'A) (out 'A) (neq) (steps 9) (walk 9) (table 9))") "refused p 13 51\n" ∷
+    reading 8 (txt "(define f [e.x] (if (cons? e.x e.h e.t a.p) (if (cons? e.h e.h e.u a.q) 'A 'B) (if (cons? e.x e.x e.t a.q) 'A 'B)))")
+    (txt "(job (in 'A) (out 'A) (neq) (steps 9) (walk 9) (table 9))") "refused p 13 59\n" ∷
+    []
+
 abbrev runs : List Reading
 runs =
-    reading 58 (txt "(define f [e.x e.n] (if (cons? e.n e.h e.n a.p) (call f [(cons e.x e.x) e.n]) (if (cons? (cons e.x e.x) e.h e.t a.p) 'A 'B)))")
+    reading 58 (txt "(define f [e.x e.n] (if (cons? e.n e.h e.m a.p) (call f [(cons e.x e.x) e.m]) (if (cons? (cons e.x e.x) e.h e.t a.q) 'A 'B)))")
     (txt "(job (in 'A " ++ times 10 "(cons 'I " ++ txt "'O" ++ times 10 ")" ++ txt ") (out 'A) (neq) (steps 99) (walk 99) (table 9))") "value 23 'A\n" ∷
     reading 59 (txt "(define m [e.z] (call f [e.z e.z]))(define f [e.x e.y] (call f [(cons e.x e.x) e.y]))")
     (txt "(job (in 'A) (out 'A) (neq) (steps 13) (walk 9) (table 9))") "stop21\n" ∷
@@ -120,7 +140,7 @@ computed f rs = map (λ r. f (r .program) (r .job)) rs
 stated : List Reading → List (List ℕ)
 stated rs = map (λ r. txt (r .printed)) rs
 
-listings-read : computed listText listings ≡ stated listings
+listings-read : computed listText (listings ++ rebound) ≡ stated (listings ++ rebound)
 unfolding computed stated listText
 listings-read = refl
 

@@ -1,25 +1,12 @@
 // The branches of a `cons?` on what is a pair or an atom already: its names are bound to ranges of the heap, and nothing is copied.
-use cells::cell;
 use heap::configuration::Configuration;
 use heap::configuration::Moved;
 use heap::entry::Pushed;
+use heap::entry::push_entry;
 use linking::code::link_at;
-use values::bind::bind;
-use values::names::names_from;
 ghost use mathlib.Core.Path.{_≡_};
-ghost use Prim.Native.Nat.{_≤_};
 ghost use Rattle.heap.specs.twins.Entries.{pushAnswer};
-ghost use Rattle.looking.specs.twins.Taking.{namesAt, placedAs, partsBound, atomBound, placedWith, taken, pairTaken, atomTaken};
-
-// The token of the first name of the `cons?`: the names stand behind what is tested.
-fn names_at(code: &[u16; 24582], c: Configuration) -> usize
-    ensures { λ r. ⌜ (r ≡ namesAt (now (code .entry)) c) × (r ≤ 65535) ⌝ }
-{
-    let i = cell::least(c.place, 4097) + 4;
-    let l = link_at(code, i);
-    let past = l.past;
-    past as usize
-}
+ghost use Rattle.looking.specs.twins.Taking.{placedAs, partsBound, placedWith, taken, pairTaken, atomTaken};
 
 // The configuration at a branch, with so many entries, so much used and this counter.
 pub fn placed(
@@ -42,41 +29,21 @@ pub fn placed(
     }
 }
 
-// "its head and tail are then bound to the two xe"
+// "its head and tail are then bound to the two xe": an entry each, behind those there are.
 pub fn bind_parts(
-    code: &[u16; 24582],
     frame: &mut [u16; 12360],
-    c: Configuration,
+    entries: usize,
     from: usize,
     mid: usize,
     to: usize,
 ) -> Pushed
-    ensures { λ r. ⌜ pushAnswer r (now (frame .exit)) ≡ partsBound (now (code .entry)) c from mid to (now (frame .entry)) ⌝ }
+    ensures { λ r. ⌜ pushAnswer r (now (frame .exit)) ≡ partsBound entries from mid to (now (frame .entry)) ⌝ }
 {
-    let base = names_from(c);
-    let j = names_at(code, c);
-    let head = link_at(code, j);
-    let tail = link_at(code, j + 1);
-    let p = bind(frame, base, c.entries, head.first, from, mid);
+    let p = push_entry(frame, entries, 0, from, mid);
     match p {
-        Pushed::Done(n) => bind(frame, base, n, tail.first, mid, to),
+        Pushed::Done(n) => push_entry(frame, n, 0, mid, to),
         Pushed::Full => Pushed::Full,
     }
-}
-
-// "if not, the atom is bound to xa"
-pub fn bind_atom(
-    code: &[u16; 24582],
-    frame: &mut [u16; 12360],
-    c: Configuration,
-    from: usize,
-    to: usize,
-) -> Pushed
-    ensures { λ r. ⌜ pushAnswer r (now (frame .exit)) ≡ atomBound (now (code .entry)) c from to (now (frame .entry)) ⌝ }
-{
-    let j = names_at(code, c);
-    let l = link_at(code, j + 2);
-    bind(frame, names_from(c), c.entries, l.first, from, to)
 }
 
 // With the names bound, at a branch.
@@ -103,11 +70,11 @@ pub fn take_pair(
 {
     let l = link_at(code, c.place);
     let place = l.first as usize;
-    let p = bind_parts(code, frame, c, from, mid, to);
+    let p = bind_parts(frame, c.entries, from, mid, to);
     placed_with(c, used, place, p)
 }
 
-// The false branch on an atom.
+// The false branch on an atom: "the atom is bound to xa".
 pub fn take_atom(
     code: &[u16; 24582],
     frame: &mut [u16; 12360],
@@ -120,6 +87,6 @@ pub fn take_atom(
 {
     let l = link_at(code, c.place);
     let place = l.second as usize;
-    let p = bind_atom(code, frame, c, from, to);
+    let p = push_entry(frame, c.entries, 0, from, to);
     placed_with(c, used, place, p)
 }

@@ -3,7 +3,7 @@
 //
 //     D D [D D] ..
 //
-// two expressions, d in the grammar of 01, and any number of non-equalities. For each it prints one line: the expression
+// two expressions, d in the grammar (01, "Texts"), and any number of non-equalities. For each it prints one line: the expression
 // that the two have in common where the non-equalities hold, then ` # L R` for each non-equality that is left, oldest
 // first; `apart` where there is none; `over` beyond 4,096 nodes; or `broken N`, the offset in the line of the token at
 // fault, or the line's length where it ends early. A blank line prints nothing.
@@ -66,7 +66,7 @@ fn meet(
 
 // Prints what is left: the wanted expression is the first entry.
 fn print_met(
-    page: &mut [u8],
+    page: &mut [u8; printer::PAGE],
     at: usize,
     text: &[u8],
     names: &[usize],
@@ -89,7 +89,7 @@ fn print_met(
 
 // Prints the answer to a problem, whose cells stand in the heap and in `written`.
 fn print_answer(
-    page: &mut [u8],
+    page: &mut [u8; printer::PAGE],
     at: usize,
     text: &[u8],
     names: &[usize],
@@ -116,7 +116,7 @@ fn print_answer(
 // Prints the answer to a line. Nothing that stands in the heap or in the frame before is read.
 fn answer(
     text: &[u8],
-    page: &mut [u8],
+    page: &mut [u8; printer::PAGE],
     at: usize,
     heap: &mut [u16; 65535],
     frame: &mut [u16; 12360],
@@ -145,7 +145,7 @@ fn line_end(text: &[u8], from: usize) -> usize
 }
 
 // Prints the answer to each line.
-fn answers(text: &[u8], page: &mut [u8]) -> usize {
+fn answers(text: &[u8], page: &mut [u8; printer::PAGE]) -> usize {
     let mut heap = [0u16; 65535];
     let mut frame = [0u16; 12360];
     let mut k: usize = 0;
@@ -163,10 +163,9 @@ fn answers(text: &[u8], page: &mut [u8]) -> usize {
 fn run(fd: i32) {
     let mut text = io::large_buffer();
     let n = io::read_full(fd, &mut text);
-    let mut space = io::buffer();
-    let page: &mut [u8] = &mut space;
-    let k = answers(&text[..n], page);
-    printer::flush(page, k);
+    let mut page = io::buffer();
+    let k = answers(&text[..n], &mut page);
+    printer::flush(&page, k);
 }
 
 fn main() {

@@ -6,6 +6,9 @@ use libc::STDOUT_FILENO;
 use meetings::class::NODES;
 use sets::tree;
 
+// The bytes of a page, as `io::buffer` has them.
+pub const PAGE: usize = 4096;
+
 // The place in the page, and the pairs that are open.
 struct Printed {
     at: usize,
@@ -13,26 +16,25 @@ struct Printed {
 }
 
 // One byte more.
-fn push(page: &mut [u8], at: usize, b: u8) -> usize {
-    if at < page.len() {
+fn push(page: &mut [u8; PAGE], at: usize, b: u8) -> usize {
+    if at < PAGE {
         page[at] = b;
         return at + 1;
     }
     io::write_all(STDOUT_FILENO, page);
-    if 0 < page.len() {
-        page[0] = b;
-    }
+    page[0] = b;
     1
 }
 
 // Writes out what stands in the page.
-pub fn flush(page: &[u8], at: usize) {
-    if at <= page.len() {
-        io::write_all(STDOUT_FILENO, &page[0..at]);
+pub fn flush(page: &[u8; PAGE], at: usize) {
+    let bytes: &[u8] = page;
+    if at <= bytes.len() {
+        io::write_all(STDOUT_FILENO, &bytes[0..at]);
     }
 }
 
-fn push_all(page: &mut [u8], at: usize, bytes: &[u8]) -> usize {
+fn push_all(page: &mut [u8; PAGE], at: usize, bytes: &[u8]) -> usize {
     let mut k = at;
     let mut i: usize = 0;
     while i < bytes.len() {
@@ -43,7 +45,7 @@ fn push_all(page: &mut [u8], at: usize, bytes: &[u8]) -> usize {
 }
 
 // A word of the line, from its place on.
-fn word(page: &mut [u8], at: usize, text: &[u8], from: usize) -> usize {
+fn word(page: &mut [u8; PAGE], at: usize, text: &[u8], from: usize) -> usize {
     let mut k = at;
     let mut i = from;
     while i < text.len() {
@@ -57,14 +59,14 @@ fn word(page: &mut [u8], at: usize, text: &[u8], from: usize) -> usize {
     k
 }
 
-fn number(page: &mut [u8], at: usize, n: u64) -> usize {
+fn number(page: &mut [u8; PAGE], at: usize, n: u64) -> usize {
     let mut digits = [0u8; 20];
     let count = io::decimal(n, &mut digits);
     push_all(page, at, &digits[..count])
 }
 
 // `'Z`, `?eK` or `?aK`.
-fn leaf(page: &mut [u8], at: usize, text: &[u8], names: &[usize], code: u16) -> usize {
+fn leaf(page: &mut [u8; PAGE], at: usize, text: &[u8], names: &[usize], code: u16) -> usize {
     let n = code / 4;
     match code % 4 {
         1 => word(page, at, text, reader::name_at(names, n as usize)),
@@ -80,7 +82,7 @@ fn leaf(page: &mut [u8], at: usize, text: &[u8], names: &[usize], code: u16) -> 
 }
 
 // Behind a tree: a pair that waits for one more tree gets a blank, and each that waits for none is closed.
-fn close(page: &mut [u8], from: Printed, waits: &mut [u16]) -> Printed {
+fn close(page: &mut [u8; PAGE], from: Printed, waits: &mut [u16; NODES]) -> Printed {
     let mut at = from.at;
     let mut open = from.open;
     while 0 < open {
@@ -100,16 +102,16 @@ fn close(page: &mut [u8], from: Printed, waits: &mut [u16]) -> Printed {
 // One node of a tree. `waits` has for each open pair how many trees it waits for. No tree has more open pairs than it has
 // room for, since a tree has at most 4,096 nodes.
 fn node(
-    page: &mut [u8],
+    page: &mut [u8; PAGE],
     from: Printed,
     text: &[u8],
     names: &[usize],
     code: u16,
-    waits: &mut [u16],
+    waits: &mut [u16; NODES],
 ) -> Printed {
     let open = from.open;
     if code == tree::PAIR {
-        if waits.len() <= open {
+        if NODES <= open {
             return from;
         }
         waits[open] = 2;
@@ -123,13 +125,12 @@ fn node(
 }
 
 // The tree whose cells these are.
-fn tree(page: &mut [u8], at: usize, text: &[u8], names: &[usize], cells: &[u16]) -> usize {
-    let mut space = [0u16; NODES];
-    let waits: &mut [u16] = &mut space;
+fn tree(page: &mut [u8; PAGE], at: usize, text: &[u8], names: &[usize], cells: &[u16]) -> usize {
+    let mut waits = [0u16; NODES];
     let mut printed = Printed { at: at, open: 0 };
     let mut i: usize = 0;
     while i < cells.len() {
-        printed = node(page, printed, text, names, cells[i], waits);
+        printed = node(page, printed, text, names, cells[i], &mut waits);
         i += 1;
     }
     printed.at
@@ -137,7 +138,7 @@ fn tree(page: &mut [u8], at: usize, text: &[u8], names: &[usize], cells: &[u16])
 
 // ` # L R`
 fn non_equality(
-    page: &mut [u8],
+    page: &mut [u8; PAGE],
     at: usize,
     text: &[u8],
     names: &[usize],
@@ -152,7 +153,7 @@ fn non_equality(
 
 // The non-equalities in the first 2 n cells of q.
 fn non_equalities(
-    page: &mut [u8],
+    page: &mut [u8; PAGE],
     at: usize,
     text: &[u8],
     names: &[usize],
@@ -171,7 +172,7 @@ fn non_equalities(
 
 // The line of an intersection: its expression, and the non-equalities that are left.
 pub fn common(
-    page: &mut [u8],
+    page: &mut [u8; PAGE],
     at: usize,
     text: &[u8],
     names: &[usize],
@@ -185,13 +186,13 @@ pub fn common(
 }
 
 // A line of one word.
-pub fn line(page: &mut [u8], at: usize, bytes: &[u8]) -> usize {
+pub fn line(page: &mut [u8; PAGE], at: usize, bytes: &[u8]) -> usize {
     let k = push_all(page, at, bytes);
     push(page, k, b'\n')
 }
 
 // The line `broken N`.
-pub fn broken(page: &mut [u8], at: usize, offset: usize) -> usize {
+pub fn broken(page: &mut [u8; PAGE], at: usize, offset: usize) -> usize {
     let k = push_all(page, at, b"broken ");
     let end = number(page, k, offset as u64);
     push(page, end, b'\n')

@@ -11,11 +11,10 @@ use resolve::run;
 ghost use mathlib.Core.Bool.{true};
 ghost use mathlib.Core.Path.{_≡_};
 ghost use Prim.Native.Nat.{_≤_, min};
-ghost use lib.ListN.{length, replicate};
-ghost use Rattle.resolve.specs.ListAnswer.{listLeft};
-ghost use Rattle.resolve.specs.RunAnswer.{runLeft};
+ghost use lib.ListN.{length};
 ghost use Rattle.print.specs.twins.ListedText.{listedText};
 ghost use Rattle.print.specs.twins.RanText.{ranText};
+ghost use Rattle.pages.specs.Written.{listed, listedBytes, ran, ranBytes};
 
 // How many writes in a row may take nothing before writing counts as failed: a reader may stand still for some seconds.
 const TRIES: usize = 10000000;
@@ -34,7 +33,7 @@ pub struct ListWritten {
 
 pub struct RunWritten {
     pub written: Written,
-    pub answer: answers::run::Answer,
+    pub answer: run_answers::run::Answer,
 }
 
 // Whether a write that took nothing may take something later: a signal came between, or the reader of a pipe that does not wait is behind.
@@ -118,7 +117,7 @@ fn write_list(
 }
 
 // A value of 4,096 nodes has at most 2,048 symbols of 17 bytes and 2,047 pairs of 8: the line fits one page.
-fn write_run(program: &[u8], job: &[u8], answer: answers::run::Answer, cells: &[u16]) -> Written
+fn write_run(program: &[u8], job: &[u8], answer: run_answers::run::Answer, cells: &[u16]) -> Written
     ensures { λ r. ⌜ (r .whole ≡ true → r .bytes ≡ length (ranText (now (program .entry)) (now (job .entry)) (now (cells .entry)) answer)) ⌝ }
 {
     let mut page = io::large_buffer();
@@ -144,7 +143,7 @@ fn write_run(program: &[u8], job: &[u8], answer: answers::run::Answer, cells: &[
 
 // Writes the listing of the two texts.
 pub fn list_texts(program: &[u8], job: &[u8]) -> ListWritten
-    ensures { λ r. ⌜ (let w = listLeft (now (program .entry)) (now (job .entry)) (replicate 8194 0) (replicate 17408 0) in (r .answer ≡ w .answer) × (r .written .whole ≡ true → r .written .bytes ≡ length (listedText (now (program .entry)) (now (job .entry)) (w .cells) (w .answer)))) ⌝ }
+    ensures { λ r. ⌜ (r .answer ≡ listed (now (program .entry)) (now (job .entry))) × (r .written .whole ≡ true → r .written .bytes ≡ listedBytes (now (program .entry)) (now (job .entry))) ⌝ }
 {
     let mut work_space = [0u16; list::WORK];
     let mut answer_space = [0u16; list::ANSWER];
@@ -162,7 +161,7 @@ pub fn list_texts(program: &[u8], job: &[u8]) -> ListWritten
 
 // Writes the line of the program's run on the job's inputs.
 pub fn run_texts(program: &[u8], job: &[u8]) -> RunWritten
-    ensures { λ r. ⌜ (let w = runLeft (now (program .entry)) (now (job .entry)) (replicate 8194 0) (replicate 4096 0) in (r .answer ≡ w .answer) × (r .written .whole ≡ true → r .written .bytes ≡ length (ranText (now (program .entry)) (now (job .entry)) (w .cells) (w .answer)))) ⌝ }
+    ensures { λ r. ⌜ (r .answer ≡ ran (now (program .entry)) (now (job .entry))) × (r .written .whole ≡ true → r .written .bytes ≡ ranBytes (now (program .entry)) (now (job .entry))) ⌝ }
 {
     let mut work_space = [0u16; run::WORK];
     let mut answer_space = [0u16; run::ANSWER];

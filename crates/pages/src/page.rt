@@ -27,7 +27,7 @@ pub fn list_page(
 pub fn run_page(
     program: &[u8],
     job: &[u8],
-    answer: answers::run::Answer,
+    answer: run_answers::run::Answer,
     cells: &[u16],
     k: u32,
     page: &mut [u8; 65536],

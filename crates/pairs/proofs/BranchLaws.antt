@@ -1,21 +1,16 @@
 -- Both branches of a `cons?`, taken by what it tests, lead to the two successors of semantics/specs/Trace.antt; and which of them there are.
 use Prim.Native.Nat.{ℕ, _+_, _≤_, _<_}
 use mathlib.Core.Path.{_≡_, refl, ap, subst, _∙_, sym as inv}
-use mathlib.Core.Bool.{Bool, true, false, not, false≢true}
+use mathlib.Core.Bool.{not}
 use mathlib.Core.List.{List}
 use mathlib.Core.Option.{Option, none, some}
 use mathlib.Core.Logic.{_⊎_, inl, inr}
 use native.Mathlib.Omega.{arith}
-use lib.Dec.{eqb}
 use lib.ListN.{length}
-use borrow.Author.Tests.{eq-eqb}
 use Rattle.expressions.specs.Expression.{AtomicExp, Exp, atm, evar, pair}
 use Rattle.expressions.specs.Substitution.{apply}
 use Rattle.expressions.specs.Contraction.{CRPair}
 use Rattle.language.specs.Program.{consp, Term, conditional, Param, Prog}
-use Rattle.language.specs.Scope.{inScope, pairScope, withA}
-use Rattle.language.specs.WellFormed.{wellFormedTerm}
-use Rattle.language.proofs.Tests.{and-four}
 use Rattle.semantics.specs.Environment.{Env}
 use Rattle.semantics.specs.Configuration.{substOfEnv, state, nodesState, Configuration}
 use Rattle.semantics.specs.Trace.{Successors, branches, tracePair, successorsOf}
@@ -32,8 +27,9 @@ use Rattle.values.proofs.ContractionLaws.{few-entries}
 use Rattle.looking.specs.twins.Looking.{LookLeft, lookAt}
 use Rattle.pairs.specs.twins.Branching.{branchesOf, trueTaken, falseTaken}
 use Rattle.looking.specs.declared.look.Tested.{Tested}
+use Rattle.pairs.proofs.NameLaws.{both-have}
 use Rattle.pairs.proofs.LookLaws.{TestAt, test-at, Looked, atomAt, variableAt, pairAt, largeAt, Looks, look-means}
-use Rattle.pairs.proofs.TakeLaws.{withNeqs, later-holds, over-leads, both-have, pair-leads, atom-leads}
+use Rattle.pairs.proofs.TakeLaws.{withNeqs, later-holds, over-leads, pair-leads, atom-leads}
 use Rattle.pairs.proofs.SplitLaws.{split-pair-leads, split-atom-leads}
 
 -- The two branches by what is tested: v is left by the true one, w by the false one.
@@ -58,7 +54,7 @@ leads-from {p} {bodies} {code} {g} {h} {used} {o} {w} x b = record { to = λ K e
     go K (inr a) = inr (arrives K a)
 
 module _ {p : Prog} {bodies : ℕ → ℕ} {code h f q : List ℕ} {names : List Param} {P : CRPair state} {e : Exp} {m k n : ℕ} {s u : Term} (c : InCells) (T : TestAt p bodies code names (c .place) e m k n s u)
-    (x : HoldsPair h f q c names P) (few : c .entries ≤ 4097) (room : c .used + 8192 ≤ 65535) (next : ℕ) (counts : c .counter ≡ next) (coded : next ≤ 16381) (apart : m ≡ k → ⊥) where
+    (x : HoldsPair h f q c names P) (few : c .entries ≤ 4097) (room : c .used + 8192 ≤ 65535) (next : ℕ) (counts : c .counter ≡ next) (coded : next ≤ 16381) where
   abbrev Both : Exp → LookLeft → Type 0
   Both d w =
       BothLead p bodies code h (c .used) (tracePair m k n s u P next d) (w .answer) (withNeqs q (trueTaken code c (w .answer) (w .heap) f)) (withNeqs q (falseTaken code c (w .answer) (w .heap) f))
@@ -91,7 +87,7 @@ module _ {p : Prog} {bodies : ℕ → ℕ} {code h f q : List ℕ} {names : List
         yes-to = _;
         no-to = _;
         successors = refl;
-        on-true = pair-leads c T now (later-holds x g now b grown fits z) few b grown next counts from mid to a d head tail apart most;
+        on-true = pair-leads c T now (later-holds x g now b grown fits z) few b grown next counts from mid to a d head tail most;
         on-false = none-leads p bodies code _;
         yes-is = refl;
         no-is = refl;
@@ -101,7 +97,7 @@ module _ {p : Prog} {bodies : ℕ → ℕ} {code h f q : List ℕ} {names : List
         yes-to = _;
         no-to = _;
         successors = refl;
-        on-true = over-leads p bodies code _ _ refl (omega (arith, both-have m k a d apart (P .con .env .evars)));
+        on-true = over-leads p bodies code _ _ refl (omega (arith, both-have x (omega arith) m k a d (T .new-head) (T .new-tail)));
         on-false = none-leads p bodies code _;
         yes-is = refl;
         no-is = refl;
@@ -112,13 +108,6 @@ module _ {p : Prog} {bodies : ℕ → ℕ} {code h f q : List ℕ} {names : List
   test-leads constants kn =
       let w = look-means x (omega arith) T constants kn room in
       by-kind (apply (substOfEnv (P .con .env)) e) (lookAt code c h f .answer) (lookAt code c h f .heap) (w .same) (w .size) (w .is)
-
--- what a `cons?` of an accepted program asks: its expression is in scope, its two `e.` names are different
-names-apart : {p : Prog} {σ : Env Exp AtomicExp} {e : Exp} {m k n : ℕ} {s u : Term} → WellScoped p (conditional (consp e m k n) s u) σ → m ≡ k → ⊥
-names-apart {p} {σ} {e} {m} {k} {n} {s} {u} w i =
-    let sc = w .scope in
-    let f = and-four (inScope sc e) (not (eqb m k)) (wellFormedTerm p (pairScope m k sc) s) (wellFormedTerm p (withA n sc) u) (w .wellFormed) .1 in
-    false≢true (inv (ap not (eq-eqb m k i)) ∙ f)
 
 module _ {p : Prog} {bodies : ℕ → ℕ} {code h f q : List ℕ} {c : InCells} {K : Configuration} (x : Stands p bodies code h f q c K) (constants : Constants code h (c .used)) (fits : nodesState (K .cr) ≤ 4097) (room : c .used + 8192 ≤ 65535)
     (coded : K .fresh ≤ 16381) (scoped : WellScoped p (K .term) (K .cr .con .env)) {e : Exp} {m k n : ℕ} {s u : Term} (is : K .term ≡ conditional (consp e m k n) s u) where
@@ -150,7 +139,7 @@ module _ {p : Prog} {bodies : ℕ → ℕ} {code h f q : List ℕ} {c : InCells}
   -- THE LAW of both branches
   pub consp-lead : BothLead p bodies code h (c .used) (successorsOf p (K .cr) (K .term) (K .fresh)) (looked .answer) yesLeft noLeft
   unfolding successorsOf
-  consp-lead = rw is (test-leads c tested-at (x .holds) (few-entries (x .holds) fits) room (K .fresh) (x .fresh) coded (names-apart scoped-here) constants known)
+  consp-lead = rw is (test-leads c tested-at (x .holds) (few-entries (x .holds) fits) room (K .fresh) (x .fresh) coded constants known)
 
   module _ {a b : Option Configuration} (two : successorsOf p (K .cr) (K .term) (K .fresh) ≡ branches a b) where
     same-to : (w : BothLead p bodies code h (c .used) (successorsOf p (K .cr) (K .term) (K .fresh)) (looked .answer) yesLeft noLeft) → (w .yes-to ≡ a) × (w .no-to ≡ b)

@@ -27,19 +27,19 @@ use Rattle.heap.proofs.KnownLaws.{KnownOf}
 use Rattle.heap.proofs.NodeLaws.{holds-nodes}
 use Rattle.heap.proofs.PairLaws.{head-holds, tail-holds, head-end}
 use Rattle.linking.specs.twins.Code.{link, linkAt}
-use Rattle.linking.specs.twins.Linked.{placeIn, withName, ExpLinked, TermLinked, testLinked}
+use Rattle.linking.specs.twins.Linked.{withName, ExpLinked, TermLinked, testLinked}
+use Rattle.language.specs.WellFormed.{hasParam}
 use Rattle.linking.specs.declared.code.Link.{Link}
 use Rattle.linking.specs.twins.Places.{envOf}
 use Rattle.constants.proofs.ConstantLaws.{Constants}
 use Rattle.constants.specs.twins.Table.{constantAt}
 use Rattle.values.specs.twins.Values.{onwardFill, tokenWritten, tokensWritten, ValueLeft, madeOf, valueAt}
-use Rattle.values.proofs.ValueLaws.{past-linked, Known}
+use Rattle.values.proofs.ValueLaws.{Known}
 use Rattle.values.proofs.RoomLaws.{value-outcome}
 use Rattle.values.proofs.RoomLaws as values
 use Rattle.values.proofs.StateLaws.{HoldsPair}
 use Rattle.values.specs.twins.Names.{namesFrom}
 use Rattle.looking.specs.twins.Looking.{testAt, headEndIn, testedBy, testedAt, LookLeft, lookLeft, testedValue, lookAt}
-use Rattle.looking.specs.twins.Taking.{namesAt}
 use Rattle.looking.specs.declared.look.Tested.{Tested}
 use Rattle.looking.specs.declared.look.Tested.the-variants.{Atom, Pair, Variable, Large}
 use Rattle.pairs.proofs.NameLaws.{names-held, entries-are}
@@ -100,7 +100,7 @@ module _ (code f : List ℕ) (base : ℕ) where
       go true u v x y = x
       go false u v x y = y
 
--- where the parts of a `cons?` stand
+-- where the parts of a `cons?` stand; its names are none of those in reach
 pub record TestAt (p : Prog) (bodies : ℕ → ℕ) (code : List ℕ) (names : List Param) (i : ℕ) (e : Exp) (g k x : ℕ) (s u : Term) : Type 0 where
   pub names-from : ℕ
   pub false-from : ℕ
@@ -108,9 +108,9 @@ pub record TestAt (p : Prog) (bodies : ℕ → ℕ) (code : List ℕ) (names : L
   pub end : ℕ
   pub opens : linkAt code i ≡ link 5 (names-from + 4) false-from past
   pub tested : ExpLinked code names (i + 4) e names-from
-  pub head : linkAt code names-from ≡ link 2 (placeIn (pe g) names) 0 (names-from + 1)
-  pub tail : linkAt code (names-from + 1) ≡ link 2 (placeIn (pe k) (withName (pe g) names)) 0 (names-from + 2)
-  pub atom : linkAt code (names-from + 2) ≡ link 2 (placeIn (pa x) names) 0 (names-from + 3)
+  pub new-head : hasParam (pe g) names ≡ false
+  pub new-tail : hasParam (pe k) (withName (pe g) names) ≡ false
+  pub new-atom : hasParam (pa x) names ≡ false
   pub on-true : TermLinked p bodies code (withName (pe k) (withName (pe g) names)) (names-from + 4) s false-from
   pub on-false : TermLinked p bodies code (withName (pa x) names) false-from u end
 
@@ -123,9 +123,9 @@ test-at (testLinked o c h t a y z) = record {
   end = _;
   opens = o;
   tested = c;
-  head = h;
-  tail = t;
-  atom = a;
+  new-head = h;
+  new-tail = t;
+  new-atom = a;
   on-true = y;
   on-false = z;
 }
@@ -142,9 +142,6 @@ in-code code i a b m e = go (ltb i 4097) _ refl e
 module _ {p : Prog} {bodies : ℕ → ℕ} {code : List ℕ} {names : List Param} {e : Exp} {g k x : ℕ} {s u : Term} (c : Configuration) (T : TestAt p bodies code names (c .place) e g k x s u) where
   pub test-from : testAt c ≡ c .place + 4
   test-from = let l = in-code code (c .place) (T .names-from + 4) (T .false-from) (T .past) (T .opens) in omega arith
-
-  pub names-from-is : namesAt code c ≡ T .names-from
-  names-from-is = rw (test-from, namesAt) (past-linked (T .tested))
 
 -- THE KINDS of what is tested, d: what `look` answers, the heap g that it leaves
 pub data Looked (used : ℕ) (g : List ℕ) (t : Tested) : Exp → Type 0 where

@@ -1,82 +1,58 @@
--- A name bound in the storages: they hold the cr-pair with σ[x ↦ v]. "A name bound again replaces the earlier one."
-use Prim.Native.Nat.{ℕ, suc, _+_, _≤_, _<_}
+-- A name bound in the storages: they hold the cr-pair with σ[x ↦ v]. No name that a `cons?` binds is in reach, so that its value gets the next entry.
+use Prim.Native.Nat.{ℕ, _+_, _≤_, _<_, min}
 use mathlib.Core.Path.{_≡_, refl, ap, subst, _∙_, sym as inv}
-use mathlib.Core.Bool.{Bool, true, false, cond}
+use mathlib.Core.Bool.{false}
 use mathlib.Core.List.{List, [], _∷_, _++_, append-assoc}
 use native.Mathlib.Omega.{arith}
-use lib.Dec.{eqb, ltb}
-use lib.ListN.{length, set, length-set, length-append}
-use borrow.Author.Tests.{ltb-true}
-use Rattle.expressions.specs.Expression.{AtomicExp, Exp, atm}
+use lib.ListN.{length, length-append}
+use borrow.Author.Tests.{lt-leb}
+use Rattle.expressions.specs.Expression.{AtomicExp, Exp, atm, nodes}
 use Rattle.expressions.specs.Contraction.{CRPair}
-use Rattle.language.specs.Program.{Param, pe, pa, sameParam}
-use Rattle.semantics.specs.Environment.{updateE, updateA}
-use Rattle.semantics.specs.Configuration.{ExpEnv, state, withEnv}
-use Rattle.heap.specs.twins.Entries.{PushAnswer}
+use Rattle.language.specs.Program.{Param, pe, pa}
+use Rattle.language.specs.WellFormed.{hasParam}
+use Rattle.semantics.specs.Environment.{update, updateE, updateA}
+use Rattle.semantics.specs.Configuration.{ExpEnv, state, withEnv, nodesValues}
+use Rattle.heap.specs.twins.Entries.{entry, entryKnown, entryFrom, entryTo, pushed, PushAnswer}
 use Rattle.heap.specs.declared.entry.Pushed.the-variants.{Done}
 use Rattle.heap.specs.declared.configuration.Configuration.{Configuration}
 use Rattle.runs.proofs.RunLaws.{below-self}
-use Rattle.heap.proofs.HeapLaws.{Holds}
-use Rattle.heap.proofs.FrameLaws.{Held, held-front}
-use Rattle.heap.proofs.PartLaws.{held-first, held-second, held-joined}
+use Rattle.heap.proofs.HeapLaws.{Holds, nodes-positive}
+use Rattle.heap.proofs.KnownLaws.{KnownOf, unknown}
+use Rattle.heap.proofs.FrameLaws.{Held, held-front, entry-length, entry-before, entry-known, entry-from, entry-to}
+use Rattle.heap.proofs.FrameLaws as frame
+use Rattle.heap.proofs.PartLaws.{held-second, held-joined}
 use Rattle.heap.proofs.NodeLaws.{holds-nodes}
-use Rattle.linking.specs.twins.Linked.{placeIn, withName}
-use Rattle.linking.specs.twins.Places.{envOf, withValue}
+use Rattle.linking.specs.twins.Linked.{withName}
+use Rattle.linking.specs.twins.Places.{envOf}
 use Rattle.linking.proofs.PlaceLaws.{bound-e, bound-a}
-use Rattle.values.specs.twins.Binding.{boundAt}
 use Rattle.values.proofs.ValueLaws.{Typed, noneTyped, eTyped, aTyped, typed-length}
-use Rattle.values.proofs.BindLaws.{Bound, bind-means}
-use Rattle.values.proofs.StateLaws.{trees, HoldsPair, nodes-length}
+use Rattle.values.proofs.StateLaws.{trees, HoldsPair}
 use Rattle.values.specs.twins.Names.{namesFrom}
 
-pub place-most : (x : Param) (sc : List Param) → placeIn x sc ≤ length sc
-place-most x [] = omega arith
-place-most x (y ∷ ys) = go (sameParam y x) (place-most x ys)
-  where
-    go : (b : Bool) → placeIn x ys ≤ length ys → cond b 0 (suc (placeIn x ys)) ≤ suc (length ys)
-    go true l = omega arith
-    go false l = omega arith
-
--- another value for an `e.` name
-set-e : (x : ℕ) (v : Exp) {sc : List Param} {vs : List Exp} → Typed sc vs → placeIn (pe x) sc < length sc → Typed sc (set vs (placeIn (pe x) sc) v)
-set-e x v noneTyped l = let z : ⊥ = omega arith in absurd z
-set-e x v (eTyped {x = y} {v = w} {sc = sc} {vs = ws} t) l = go (eqb y x) l (λ k. set-e x v t k)
-  where
-    go : (b : Bool) → cond b 0 (suc (placeIn (pe x) sc)) < suc (length sc) → (placeIn (pe x) sc < length sc → Typed sc (set ws (placeIn (pe x) sc) v)) → Typed (pe y ∷ sc) (set (w ∷ ws) (cond b 0 (suc (placeIn (pe x) sc))) v)
-    go true k again = eTyped t
-    go false k again = eTyped (again (omega arith))
-set-e x v (aTyped t) l = aTyped (set-e x v t (omega arith))
-
--- another atom for an `a.` name
-set-a : (x : ℕ) (y : AtomicExp) {sc : List Param} {vs : List Exp} → Typed sc vs → placeIn (pa x) sc < length sc → Typed sc (set vs (placeIn (pa x) sc) (atm y))
-set-a x y noneTyped l = let z : ⊥ = omega arith in absurd z
-set-a x y (aTyped {x = u} {y = w} {sc = sc} {vs = ws} t) l = go (eqb u x) l (λ k. set-a x y t k)
-  where
-    go : (b : Bool) → cond b 0 (suc (placeIn (pa x) sc)) < suc (length sc) → (placeIn (pa x) sc < length sc → Typed sc (set ws (placeIn (pa x) sc) (atm y))) →
-        Typed (pa u ∷ sc) (set (atm w ∷ ws) (cond b 0 (suc (placeIn (pa x) sc))) (atm y))
-    go true k again = aTyped t
-    go false k again = aTyped (again (omega arith))
-set-a x y (eTyped t) l = eTyped (set-a x y t (omega arith))
-
--- one more name
-more-typed : {n : Param} {v : Exp} {sc : List Param} {vs : List Exp} → Typed sc vs → Typed (n ∷ []) (v ∷ []) → Typed (sc ++ (n ∷ [])) (vs ++ (v ∷ []))
+-- one name more
+more-typed : {n : Param} {v : Exp} {sc : List Param} {vs : List Exp} → Typed sc vs → Typed (n ∷ []) (v ∷ []) → Typed (withName n sc) (vs ++ (v ∷ []))
 more-typed noneTyped r = r
 more-typed (eTyped t) r = eTyped (more-typed t r)
 more-typed (aTyped t) r = aTyped (more-typed t r)
 
-module _ (name : Param) (v : Exp) {sc : List Param} {vs : List Exp} (t : Typed sc vs) where
-  typed-with : (placeIn name sc < length sc → Typed sc (set vs (placeIn name sc) v)) → Typed (name ∷ []) (v ∷ []) → Typed (withName name sc) (withValue (placeIn name sc) v vs)
-  typed-with again one = rw (typed-length t) (go (ltb (placeIn name sc) (length sc)) refl)
-    where
-      go : (b : Bool) → ltb (placeIn name sc) (length sc) ≡ b → Typed (cond b sc (sc ++ (name ∷ []))) (cond b (set vs (placeIn name sc) v) (vs ++ (v ∷ [])))
-      go true e = again (ltb-true (placeIn name sc) (length sc) e)
-      go false e = more-typed t one
+pub typed-with-e : (x : ℕ) (v : Exp) {sc : List Param} {vs : List Exp} → Typed sc vs → Typed (withName (pe x) sc) (vs ++ (v ∷ []))
+typed-with-e x v t = more-typed t (eTyped noneTyped)
 
-pub typed-with-e : (x : ℕ) (v : Exp) {sc : List Param} {vs : List Exp} → Typed sc vs → Typed (withName (pe x) sc) (withValue (placeIn (pe x) sc) v vs)
-typed-with-e x v t = typed-with (pe x) v t (set-e x v t) (eTyped noneTyped)
+pub typed-with-a : (x : ℕ) (y : AtomicExp) {sc : List Param} {vs : List Exp} → Typed sc vs → Typed (withName (pa x) sc) (vs ++ (atm y ∷ []))
+typed-with-a x y t = more-typed t (aTyped noneTyped)
 
-pub typed-with-a : (x : ℕ) (y : AtomicExp) {sc : List Param} {vs : List Exp} → Typed sc vs → Typed (withName (pa x) sc) (withValue (placeIn (pa x) sc) (atm y) vs)
-typed-with-a x y t = typed-with (pa x) (atm y) t (set-a x y t) (aTyped noneTyped)
+-- an entry behind those that hold trees
+pushed-held : {h f : List ℕ} {used n from to : ℕ} {ts : List Exp} {v : Exp} → Held h used f 0 ts → n ≡ length ts → Holds h used from to v → used ≤ 65535 → n < 4120 → length f ≡ 12360 →
+    Held h used (entry n 0 from to f) 0 (ts ++ (v ∷ []))
+pushed-held {h} {f} {used} {n} {from} {to} {ts} {v} held e is fits room size =
+    let z = holds-nodes is in let q = nodes-positive v in let b = is .below in
+    let g = entry n 0 from to f in
+    let low : min from 65535 ≡ from = omega arith in
+    let high : min to 65535 ≡ to = omega arith in
+    let i : 0 + length ts ≡ n = omega arith in
+    let there : Holds h used (entryFrom g n) (entryTo g n) v = rw (entry-from n 0 from to f (omega arith), entry-to n 0 from to f (omega arith), low, high) is in
+    let nothing : KnownOf (entryKnown g n) v = rw (entry-known n 0 from to f (omega arith)) unknown in
+    held-joined (held-front held below-self (omega arith) (record { same = λ j l. entry-before n 0 from to f .same j (omega arith) })) (rw i (frame.Held.more there nothing frame.Held.none))
 
 -- the configuration with so many entries
 abbrev pub entriesTo : ℕ → Configuration → Configuration
@@ -84,10 +60,8 @@ entriesTo n c = record { inputs = c .inputs; outputs = c .outputs; entries = n; 
 
 -- what binding so many names leaves
 pub record Named (h q : List ℕ) (c : Configuration) (more : ℕ) (names : List Param) (P : CRPair state) (w : PushAnswer) : Type 0 where
-  pub now : ℕ
-  pub done : w .answer ≡ Done now
-  pub most : now ≤ c .entries + more
-  pub holds : HoldsPair h (w .frame) q (entriesTo now c) names P
+  pub done : w .answer ≡ Done (c .entries + more)
+  pub holds : HoldsPair h (w .frame) q (entriesTo (c .entries + more) c) names P
 
 module _ {h f q : List ℕ} {c : Configuration} {names : List Param} {P : CRPair state} (x : HoldsPair h f q c names P) (room : c .entries < 4120) where
   abbrev ios : List Exp
@@ -115,70 +89,59 @@ module _ {h f q : List ℕ} {c : Configuration} {names : List Param} {P : CRPair
   pub entries-are : c .entries ≡ namesFrom c + length (x .values)
   entries-are = omega (arith, x .entries, trees-length (x .values), base-is)
 
-  ends-held : Held h (c .used) f 0 ios
-  ends-held = held-first ios (x .values) (subst (λ (ts : List Exp). Held h (c .used) f 0 ts) (trees-parts (x .values)) (x .held))
+  module _ (name : Param) (v : Exp) (E : ExpEnv) (from to : ℕ) (is : Holds h (c .used) from to v) (typed : Typed (withName name names) (x .values ++ (v ∷ [])))
+      (env : E ≡ envOf (withName name names) (x .values ++ (v ∷ []))) where
+    trees-last : trees P (x .values ++ (v ∷ [])) ≡ trees P (x .values) ++ (v ∷ [])
+    trees-last = inv (append-assoc (P .con .io .ins) (P .con .io .out ∷ x .values) (v ∷ []))
 
-  module _ (name : Param) (v : Exp) (E : ExpEnv) (from to : ℕ) (at : Holds h (c .used) from to v) (typed : Typed (withName name names) (withValue (placeIn name names) v (x .values)))
-      (env : E ≡ envOf (withName name names) (withValue (placeIn name names) v (x .values))) where
-    abbrev ws : List Exp
-    ws = withValue (placeIn name names) v (x .values)
-
-    held-with : (w : PushAnswer) → Bound h f (c .used) (namesFrom c) ws w → Held h (c .used) (w .frame) 0 (trees P ws)
-    held-with w b =
-        let z : namesFrom c ≡ 0 + length ios = omega (arith, ios-length, base-is) in
-        let a : Held h (c .used) (w .frame) 0 ios = held-front ends-held below-self (omega arith) (record { same = λ j m. b .before .same j (omega (arith, z)) }) in
-        subst (λ (ts : List Exp). Held h (c .used) (w .frame) 0 ts) (inv (trees-parts ws)) (held-joined a (subst (λ (i : ℕ). Held h (c .used) (w .frame) i ws) z (b .holds)))
-
-    name-held : (w : PushAnswer) → Bound h f (c .used) (namesFrom c) ws w → length ws ≤ length (x .values) + 1 → Named h q c 1 (withName name names) (withEnv E P) w
-    name-held w b l = record {
-      now = namesFrom c + length ws;
-      done = b .done;
-      most = omega (arith, entries-are);
+    -- THE LAW of a name
+    name-bound : Named h q c 1 (withName name names) (withEnv E P) (pushed (c .entries) 0 from to f)
+    unfolding pushed
+    name-bound = rw (lt-leb 4120 (c .entries) room) (record {
+      done = refl;
       holds = record {
-        values = ws;
+        values = x .values ++ (v ∷ []);
         typed = typed;
         env = env;
-        held = held-with w b;
+        held = rw trees-last (pushed-held (x .held) (x .entries) is (x .fits) room (x .frame-size));
         inputs = x .inputs;
         outputs = x .outputs;
-        entries = omega (arith, trees-length ws, base-is);
+        entries = omega (arith, x .entries, ap length trees-last, length-append (trees P (x .values)) (v ∷ []));
         neqs = x .neqs;
         count = x .count;
         fits = x .fits;
         heap-size = x .heap-size;
-        frame-size = b .room ∙ x .frame-size;
+        frame-size = entry-length (c .entries) 0 from to f ∙ x .frame-size;
         q-size = x .q-size;
       };
-    }
+    })
 
-    -- one value more at most
-    with-length : (p : ℕ) (vs : List Exp) → length (withValue p v vs) ≤ length vs + 1
-    with-length p vs = go (ltb p (length vs))
-      where
-        go : (b : Bool) → length (cond b (set vs p v) (vs ++ (v ∷ []))) ≤ length vs + 1
-        go true = let z = length-set vs p v in omega arith
-        go false = let z = length-append vs (v ∷ []) in omega arith
+  -- σ[x ↦ v] for an `e.` name that is not in reach
+  pub env-with-e : (n : ℕ) (v : Exp) → hasParam (pe n) names ≡ false → updateE n v (P .con .env) ≡ envOf (withName (pe n) names) (x .values ++ (v ∷ []))
+  env-with-e n v new = ap (updateE n v) (x .env) ∙ bound-e n v names (x .values) (typed-length (x .typed)) new
 
-    -- THE LAW of a name
-    name-bound : Named h q c 1 (withName name names) (withEnv E P) (boundAt (namesFrom c) (c .entries) (placeIn name names) from to f)
-    name-bound =
-        let l = typed-length (x .typed) in
-        let m = place-most name names in
-        let n = nodes-length (v ∷ []) in
-        let z = holds-nodes at in
-        let b = bind-means h f (c .used) (namesFrom c) from to (x .values) v names-held at (omega (arith, at .below, x .fits)) (omega (arith, at .below, x .fits)) (x .frame-size) (placeIn name names) (omega arith)
-        (omega (arith, entries-are)) in
-        subst (λ (n : ℕ). Named h q c 1 (withName name names) (withEnv E P) (boundAt (namesFrom c) n (placeIn name names) from to f)) (inv entries-are)
-        (name-held (boundAt (namesFrom c) (namesFrom c + length (x .values)) (placeIn name names) from to f) b (with-length (placeIn name names) (x .values)))
-
-  -- σ[x ↦ v] for an `e.` name
-  pub bound-name-e : (n : ℕ) (v : Exp) (from to : ℕ) → Holds h (c .used) from to v →
-      Named h q c 1 (withName (pe n) names) (withEnv (updateE n v (P .con .env)) P) (boundAt (namesFrom c) (c .entries) (placeIn (pe n) names) from to f)
-  bound-name-e n v from to at =
-      name-bound (pe n) v (updateE n v (P .con .env)) from to at (typed-with-e n v (x .typed)) (ap (updateE n v) (x .env) ∙ bound-e n v names (x .values) (typed-length (x .typed)))
+  pub bound-name-e : (n : ℕ) (v : Exp) (from to : ℕ) → Holds h (c .used) from to v → hasParam (pe n) names ≡ false →
+      Named h q c 1 (withName (pe n) names) (withEnv (updateE n v (P .con .env)) P) (pushed (c .entries) 0 from to f)
+  bound-name-e n v from to is new = name-bound (pe n) v (updateE n v (P .con .env)) from to is (typed-with-e n v (x .typed)) (env-with-e n v new)
 
   -- for an `a.` name
-  pub bound-name-a : (n : ℕ) (y : AtomicExp) (from to : ℕ) → Holds h (c .used) from to (atm y) →
-      Named h q c 1 (withName (pa n) names) (withEnv (updateA n y (P .con .env)) P) (boundAt (namesFrom c) (c .entries) (placeIn (pa n) names) from to f)
-  bound-name-a n y from to at =
-      name-bound (pa n) (atm y) (updateA n y (P .con .env)) from to at (typed-with-a n y (x .typed)) (ap (updateA n y) (x .env) ∙ bound-a n (atm y) names (x .values) (typed-length (x .typed)))
+  pub env-with-a : (n : ℕ) (y : AtomicExp) → hasParam (pa n) names ≡ false → updateA n y (P .con .env) ≡ envOf (withName (pa n) names) (x .values ++ (atm y ∷ []))
+  env-with-a n y new = ap (updateA n y) (x .env) ∙ bound-a n (atm y) names (x .values) (typed-length (x .typed)) new
+
+  pub bound-name-a : (n : ℕ) (y : AtomicExp) (from to : ℕ) → Holds h (c .used) from to (atm y) → hasParam (pa n) names ≡ false →
+      Named h q c 1 (withName (pa n) names) (withEnv (updateA n y (P .con .env)) P) (pushed (c .entries) 0 from to f)
+  bound-name-a n y from to is new = name-bound (pa n) (atm y) (updateA n y (P .con .env)) from to is (typed-with-a n y (x .typed)) (env-with-a n y new)
+
+  -- the two `e.` names of a `cons?`
+  module _ (m k : ℕ) (a b : Exp) (new-head : hasParam (pe m) names ≡ false) (new-tail : hasParam (pe k) (withName (pe m) names) ≡ false) where
+    pub env-with-parts : updateE k b (updateE m a (P .con .env)) ≡ envOf (withName (pe k) (withName (pe m) names)) ((x .values ++ (a ∷ [])) ++ (b ∷ []))
+    env-with-parts = ap (updateE k b) (env-with-e m a new-head) ∙ bound-e k b (withName (pe m) names) (x .values ++ (a ∷ [])) (typed-length (typed-with-e m a (x .typed))) new-tail
+
+    -- what is counted of the two parts
+    pub both-have : nodes a + nodes b ≤ nodesValues (update k b (update m a (P .con .env .evars)))
+    both-have = subst (λ (bs : List (ℕ × Exp)). nodes a + nodes b ≤ nodesValues bs) (inv (ap (λ (σ : ExpEnv). σ .evars) env-with-parts)) (parts-counted (x .typed))
+      where
+        parts-counted : {sc : List Param} {vs : List Exp} → Typed sc vs → nodes a + nodes b ≤ nodesValues (envOf (withName (pe k) (withName (pe m) sc)) ((vs ++ (a ∷ [])) ++ (b ∷ [])) .evars)
+        parts-counted noneTyped = omega arith
+        parts-counted (eTyped t) = omega (arith, parts-counted t)
+        parts-counted (aTyped t) = parts-counted t

@@ -78,17 +78,17 @@ module _ {p : Prog} {bodies : ℕ → ℕ} {code h f q : List ℕ} {names : List
   -- The names bound, then the contraction.
   module _ {g : List ℕ} {used more place past : ℕ} {sc : List Param} {R : CRPair state} {w : PushAnswer} (N : Named g q (usedTo used c) more sc R w) (some-more : more ≤ 3) (same : Below (c .used) g h)
       (grown : c .used ≤ used) (near : used ≤ c .used + 3) {d : Exp} (value : Holds g used (c .used) used d) (t : Term) (after : ℕ) (term : TermLinked p bodies code sc place t past) where
-    bound-is : boundContracted c (evarCode v) used place after (w .answer) g (w .frame) ≡ contractedAll (placedAs c (N .now) used place after) (evarCode v) (c .used) g (w .frame)
+    bound-is : boundContracted c (evarCode v) used place after (w .answer) g (w .frame) ≡ contractedAll (placedAs c (c .entries + more) used place after) (evarCode v) (c .used) g (w .frame)
     unfolding boundContracted
     bound-is = rw (N .done)
 
     split-leads : Leads p bodies code h (c .used) (some (record { cr = appliedPair (substE v d) R; term = t; fresh = after })) (withNeqs q (boundContracted c (evarCode v) used place after (w .answer) g (w .frame)))
     split-leads =
-        let i = placed-entries c (N .now) used place after in
-        let j = placed-used c (N .now) used place after in
-        let y : Range g (placedAs c (N .now) used place after .used) (c .used) (placedAs c (N .now) used place after .used) (cells d) = rw j (record { below = value .below; is = value .is }) in
-        rw bound-is (contracted-leads p bodies code (placed-holds c (N .now) used place after (N .holds)) (omega (arith, N .most)) same (omega arith) (omega arith) room (filling-e v d) y t after past
-        (rw (placed-place c (N .now) used place after) term) (placed-counter c (N .now) used place after))
+        let i = placed-entries c (c .entries + more) used place after in
+        let j = placed-used c (c .entries + more) used place after in
+        let y : Range g (placedAs c (c .entries + more) used place after .used) (c .used) (placedAs c (c .entries + more) used place after .used) (cells d) = rw j (record { below = value .below; is = value .is }) in
+        rw bound-is (contracted-leads p bodies code (placed-holds c (c .entries + more) used place after (N .holds)) (omega arith) same (omega arith) (omega arith) room (filling-e v d) y t after past
+        (rw (placed-place c (c .entries + more) used place after) term) (placed-counter c (c .entries + more) used place after))
 
   module _ (a b : ℕ) where
     abbrev made : Exp

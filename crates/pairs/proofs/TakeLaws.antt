@@ -1,20 +1,18 @@
 -- The branches of a `cons?` on a pair and on an atom lead to the successors of semantics/specs/Trace.antt.
-use Prim.Native.Nat.{ℕ, _+_, _-_, _≤_, _<_}
+use Prim.Native.Nat.{ℕ, _+_, _≤_, _<_}
 use mathlib.Core.Path.{_≡_, refl, ap, subst, _∙_}
-use mathlib.Core.Bool.{Bool, true, false, cond}
-use mathlib.Core.List.{List, [], _∷_}
+use mathlib.Core.List.{List}
 use mathlib.Core.Option.{some}
 use mathlib.Core.Logic.{inl, inr}
 use native.Mathlib.Omega.{arith}
-use lib.Dec.{eqb}
 use lib.ListN.{length}
-use borrow.Author.Tests.{ne-eqb}
 use Rattle.expressions.specs.Expression.{AtomicExp, Exp, atm, pair, nodes}
 use Rattle.expressions.specs.Contraction.{CRPair}
 use Rattle.language.specs.Program.{Term, Param, pe, pa, Prog}
-use Rattle.semantics.specs.Environment.{update, updateE, updateA}
-use Rattle.semantics.specs.Configuration.{state, withEnv, nodesValues, nodesState, Configuration}
-use Rattle.heap.specs.twins.Entries.{PushAnswer}
+use Rattle.semantics.specs.Environment.{updateE, updateA}
+use Rattle.semantics.specs.Configuration.{state, withEnv, nodesState, Configuration}
+use Rattle.heap.specs.twins.Entries.{PushAnswer, pushed}
+use Rattle.heap.specs.declared.entry.Pushed.the-variants.{Done}
 use Rattle.heap.specs.twins.Moving.{Left, left}
 use Rattle.heap.specs.twins.Moving.{Move}
 use Rattle.heap.specs.declared.configuration.Configuration.{Configuration as InCells}
@@ -23,14 +21,12 @@ use Rattle.heap.specs.declared.configuration.Moved.the-variants.{On, Over}
 use Rattle.runs.proofs.RunLaws.{Below}
 use Rattle.heap.proofs.HeapLaws.{Holds}
 use Rattle.heap.proofs.FrameLaws.{held-kept}
-use Rattle.linking.specs.twins.Linked.{placeIn, withName, TermLinked}
-use Rattle.values.specs.twins.Binding.{boundAt}
+use Rattle.linking.specs.twins.Linked.{withName, TermLinked}
 use Rattle.values.proofs.StateLaws.{HoldsPair, Leads, leads-to}
 use Rattle.values.proofs.ContractionLaws.{usedTo, pair-same}
-use Rattle.values.specs.twins.Names.{namesFrom}
-use Rattle.looking.specs.twins.Taking.{placedAs, partsBound, atomBound, placedWith, pairTaken, atomTaken}
-use Rattle.pairs.proofs.NameLaws.{entriesTo, Named, bound-name-e, bound-name-a}
-use Rattle.pairs.proofs.LookLaws.{TestAt, names-from-is}
+use Rattle.looking.specs.twins.Taking.{placedAs, partsBound, placedWith, pairTaken, atomTaken}
+use Rattle.pairs.proofs.NameLaws.{entriesTo, Named, bound-name-e, bound-name-a, both-have}
+use Rattle.pairs.proofs.LookLaws.{TestAt}
 
 -- `cons?` touches no non-equality
 abbrev pub withNeqs : List ℕ → Move → Left
@@ -95,28 +91,6 @@ module _ (p : Prog) (bodies : ℕ → ℕ) (code : List ℕ) where
     most = most;
   }))
 
--- what is counted of the two parts: the names of a `cons?` are different
-update-has : (x : ℕ) (d : Exp) (bs : List (ℕ × Exp)) → nodes d ≤ nodesValues (update x d bs)
-update-has x d [] = omega arith
-update-has x d (b ∷ bs) = pick (eqb (b .0) x) (update-has x d bs)
-  where
-    pick : (t : Bool) → nodes d ≤ nodesValues (update x d bs) → nodes d ≤ nodesValues (cond t ((x, d) ∷ bs) (b ∷ update x d bs))
-    pick true e = omega arith
-    pick false e = omega arith
-
-pub both-have : (x y : ℕ) (a b : Exp) → (x ≡ y → ⊥) → (bs : List (ℕ × Exp)) → nodes a + nodes b ≤ nodesValues (update y b (update x a bs))
-both-have x y a b f [] = rw (ne-eqb x y f) (omega arith)
-both-have x y a b f (c ∷ bs) = first (eqb (c .0) x) (both-have x y a b f bs)
-  where
-    second : (t : Bool) → nodes a + nodes b ≤ nodesValues (update y b (update x a bs)) → nodes a ≤ nodesValues (update x a bs) →
-        nodes a + nodes b ≤ nodesValues (cond t ((y, b) ∷ update x a bs) (c ∷ update y b (update x a bs)))
-    second true e g = omega arith
-    second false e g = omega arith
-
-    first : (t : Bool) → nodes a + nodes b ≤ nodesValues (update y b (update x a bs)) → nodes a + nodes b ≤ nodesValues (update y b (cond t ((x, a) ∷ bs) (c ∷ update x a bs)))
-    first true e = rw (ne-eqb x y f) (omega (arith, update-has y b bs))
-    first false e = second (eqb (c .0) y) e (update-has x a bs)
-
 module _ {p : Prog} {bodies : ℕ → ℕ} {code g f q : List ℕ} {names : List Param} {P : CRPair state} {e : Exp} {m k n : ℕ} {s u : Term} (c : InCells) (T : TestAt p bodies code names (c .place) e m k n s u)
     (used : ℕ) (x : HoldsPair g f q (usedTo used c) names P) (few : c .entries ≤ 4097) where
   -- the cr-pair with the two parts' names, and with the atom's
@@ -127,52 +101,50 @@ module _ {p : Prog} {bodies : ℕ → ℕ} {code g f q : List ℕ} {names : List
   withAtom y = withEnv (updateA n y (P .con .env)) P
 
   module _ (from mid to : ℕ) (a b : Exp) (head : Holds g used from mid a) (tail : Holds g used mid to b) where
-    first-name : Named g q (usedTo used c) 1 (withName (pe m) names) (withEnv (updateE m a (P .con .env)) P) (boundAt (namesFrom c) (c .entries) (placeIn (pe m) names) from mid f)
-    first-name = bound-name-e x (omega arith) m a from mid head
-
-    parts-are : partsBound code c from mid to f ≡ boundAt (namesFrom c) (first-name .now) (placeIn (pe k) (withName (pe m) names)) mid to (boundAt (namesFrom c) (c .entries) (placeIn (pe m) names) from mid f .frame)
-    unfolding partsBound
-    parts-are = rw (names-from-is c T, T .head, T .tail, first-name .done)
-
     -- the two `e.` names
-    pub parts-named : Named g q (usedTo used c) 2 (withName (pe k) (withName (pe m) names)) (withParts a b) (partsBound code c from mid to f)
+    pub parts-named : Named g q (usedTo used c) 2 (withName (pe k) (withName (pe m) names)) (withParts a b) (partsBound (c .entries) from mid to f)
+    unfolding partsBound
     parts-named =
-        let v = first-name in
-        let w = bound-name-e (v .holds) (omega (arith, v .most)) k b mid to tail in
-        rw parts-are (record { now = w .now; done = w .done; most = omega (arith, w .most, v .most); holds = w .holds })
+        let v = bound-name-e x (omega arith) m a from mid head (T .new-head) in
+        let w = bound-name-e (v .holds) (omega arith) k b mid to tail (T .new-tail) in
+        let two : c .entries + 1 + 1 ≡ c .entries + 2 = omega arith in
+        let g2 = pushed (c .entries + 1) 0 mid to (pushed (c .entries) 0 from mid f .frame) .frame in
+        rw (v .done) (record {
+          done = w .done ∙ ap Done two;
+          holds = subst (λ (i : ℕ). HoldsPair g g2 q (entriesTo i (usedTo used c)) (withName (pe k) (withName (pe m) names)) (withParts a b)) two (w .holds);
+        })
 
   -- the `a.` name
-  pub atom-named : (from to : ℕ) (y : AtomicExp) → Holds g used from to (atm y) → Named g q (usedTo used c) 1 (withName (pa n) names) (withAtom y) (atomBound code c from to f)
-  unfolding atomBound
-  atom-named from to y at = rw (names-from-is c T, T .atom) (bound-name-a x (omega arith) n y from to at)
+  pub atom-named : (from to : ℕ) (y : AtomicExp) → Holds g used from to (atm y) → Named g q (usedTo used c) 1 (withName (pa n) names) (withAtom y) (pushed (c .entries) 0 from to f)
+  atom-named from to y is = bound-name-a x (omega arith) n y from to is (T .new-atom)
 
   -- the names bound, at a branch
   module _ {h : List ℕ} (same : Below (c .used) g h) (grown : c .used ≤ used) (fresh : ℕ) (counts : c .counter ≡ fresh) where
     module _ (more place past : ℕ) (sc : List Param) (R : CRPair state) (t : Term) (w : PushAnswer) (N : Named g q (usedTo used c) more sc R w) (some-more : more ≤ 2)
         (term : TermLinked p bodies code sc place t past) (most : used ≤ c .used + (nodesState R + 4)) where
-      bound-placed : placedWith c used place (w .answer) ≡ On (placedAs c (N .now) used place (c .counter))
+      bound-placed : placedWith c used place (w .answer) ≡ On (placedAs c (c .entries + more) used place (c .counter))
       unfolding placedWith
       bound-placed = rw (N .done)
 
       bound-leads : Leads p bodies code h (c .used) (some (record { cr = R; term = t; fresh = fresh })) (left (placedWith c used place (w .answer)) g (w .frame) q)
       bound-leads =
-          let d = placedAs c (N .now) used place (c .counter) in
-          let j = placed-used c (N .now) used place (c .counter) in
-          on-leads p bodies code {d = d} (placed-holds c (N .now) used place (c .counter) (N .holds)) same (omega arith) (omega arith) t fresh past
-          (rw (placed-place c (N .now) used place (c .counter)) term) (placed-counter c (N .now) used place (c .counter) ∙ counts) _ bound-placed
+          let d = placedAs c (c .entries + more) used place (c .counter) in
+          let j = placed-used c (c .entries + more) used place (c .counter) in
+          on-leads p bodies code {d = d} (placed-holds c (c .entries + more) used place (c .counter) (N .holds)) same (omega arith) (omega arith) t fresh past
+          (rw (placed-place c (c .entries + more) used place (c .counter)) term) (placed-counter c (c .entries + more) used place (c .counter) ∙ counts) _ bound-placed
 
     -- THE LAW of the true branch on a pair
-    pub pair-leads : (from mid to : ℕ) (a b : Exp) → Holds g used from mid a → Holds g used mid to b → (m ≡ k → ⊥) → used ≤ c .used + nodes (pair a b) →
+    pub pair-leads : (from mid to : ℕ) (a b : Exp) → Holds g used from mid a → Holds g used mid to b → used ≤ c .used + nodes (pair a b) →
         let w = pairTaken code c from mid to used f in Leads p bodies code h (c .used) (some (record { cr = withParts a b; term = s; fresh = fresh })) (left (w .answer) g (w .frame) q)
     unfolding pairTaken
-    pair-leads from mid to a b head tail apart most =
-        let v = both-have m k a b apart (P .con .env .evars) in
-        rw (T .opens) (bound-leads 2 (T .names-from + 4) (T .false-from) (withName (pe k) (withName (pe m) names)) (withParts a b) s (partsBound code c from mid to f)
+    pair-leads from mid to a b head tail most =
+        let v = both-have x (omega arith) m k a b (T .new-head) (T .new-tail) in
+        rw (T .opens) (bound-leads 2 (T .names-from + 4) (T .false-from) (withName (pe k) (withName (pe m) names)) (withParts a b) s (partsBound (c .entries) from mid to f)
         (parts-named from mid to a b head tail) (omega arith) (T .on-true) (omega arith))
 
     -- THE LAW of the false branch on an atom
     pub atom-leads : (from to : ℕ) (y : AtomicExp) → Holds g used from to (atm y) → used ≤ c .used + 1 →
         let w = atomTaken code c from to used f in Leads p bodies code h (c .used) (some (record { cr = withAtom y; term = u; fresh = fresh })) (left (w .answer) g (w .frame) q)
     unfolding atomTaken
-    atom-leads from to y at most =
-        rw (T .opens) (bound-leads 1 (T .false-from) (T .end) (withName (pa n) names) (withAtom y) u (atomBound code c from to f) (atom-named from to y at) (omega arith) (T .on-false) (omega arith))
+    atom-leads from to y is most =
+        rw (T .opens) (bound-leads 1 (T .false-from) (T .end) (withName (pa n) names) (withAtom y) u (pushed (c .entries) 0 from to f) (atom-named from to y is) (omega arith) (T .on-false) (omega arith))

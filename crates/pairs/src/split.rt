@@ -1,11 +1,11 @@
 // The branches of a `cons?` on a `?e`: "true gives a pair of two fresh `?e`, false a fresh `?a`", "three numbers ..: head, tail, atom" on both. The new
-// value's cells stand behind what is used. The names are bound before the contraction: the value of a name that is bound again neither counts nor is filled.
+// value's cells stand behind what is used. The names are bound before the contraction, and their values are filled with the others.
 use heap::configuration::Configuration;
 use heap::configuration::Moved;
 use heap::contract::contract_entries;
 use heap::entry::Pushed;
+use heap::entry::push_entry;
 use linking::code::link_at;
-use looking::take::bind_atom;
 use looking::take::bind_parts;
 use looking::take::placed;
 use runs::run;
@@ -83,7 +83,7 @@ fn make_pair(
     let l = link_at(code, c.place);
     let place = l.first as usize;
     run::append_pair(heap, head, tail, used);
-    let p = bind_parts(code, frame, c, used + 1, used + 2, used + 3);
+    let p = bind_parts(frame, c.entries, used + 1, used + 2, used + 3);
     bound_contracted(heap, frame, c, x, used + 3, place, next, p)
 }
 
@@ -106,7 +106,7 @@ fn make_atom(
     let l = link_at(code, c.place);
     let place = l.second as usize;
     heap[used] = atom;
-    let p = bind_atom(code, frame, c, used, used + 1);
+    let p = push_entry(frame, c.entries, 0, used, used + 1);
     bound_contracted(heap, frame, c, x, used + 1, place, next, p)
 }
 

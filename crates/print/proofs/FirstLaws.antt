@@ -5,7 +5,6 @@ use mathlib.Core.Bool.{true, false}
 use mathlib.Core.List.{List}
 use native.Mathlib.Omega.{arith}
 use lib.ListN.{length}
-use borrow.Author.Tests.{le-ltb}
 use Rattle.language.specs.Source.{SProg, SJob, prog, class}
 use Rattle.language.specs.JobCheck.{lister}
 use Rattle.language.specs.Reading.{accepted, reading}
@@ -15,6 +14,7 @@ use Rattle.reading.specs.twins.BothCells.{bothOver}
 use Rattle.answers.specs.Headings.{headingOf}
 use Rattle.answers.specs.declared.list.Answer.{Answer}
 use Rattle.answers.specs.declared.list.Answer.the-variants.{Short}
+use Rattle.lent.proofs.RoomLaws.{long-enough}
 use Rattle.resolve.specs.ListAnswer.{tooShort, listLeft}
 use Rattle.resolve.specs.ListDemand.{Answered, StoredListing}
 use Rattle.resolve.specs.twins.ListCells.{ListOut, listTexts}
@@ -45,10 +45,10 @@ module _ (program job work d : List ℕ) where
   pub short-promised : (n : ℕ) {r : Answer} {bytes : ℕ} {page : List ℕ} → r ≡ Short → LeftAs program job work d Short work d → Printed n 0 (printRefusal 45 20 0) bytes page → Promise n r bytes work d page
   short-promised n f e p = first-promised n (f ∙ e .0, e .1, e .2) (ap (λ (a : Answer). listedText program job (listLeft program job work d .cells) a) (e .0)) p
 
-  pub texts-promised : (n : ℕ) → 8194 ≤ length work → 17408 ≤ length d → {r : Answer} {bytes : ℕ} {x a page : List ℕ} → ListOut r x a (listTexts program job work d) → length a ≡ length d →
+  pub texts-promised : (n : ℕ) → tooShort work d ≡ false → {r : Answer} {bytes : ℕ} {x a page : List ℕ} → ListOut r x a (listTexts program job work d) → length a ≡ length d →
       Printed n 0 (headedText (readListing program job (bothOver false program job work) a) (headingOf r)) bytes page → Promise n r bytes x a page
-  texts-promised n l m o k p =
-      let e = list-said program job work d l m o k in
-      let long : tooShort work d ≡ false = rw (le-ltb (length work) 8194 l, le-ltb (length d) 17408 m) in
+  texts-promised n long o k p =
+      let e = list-said program job work d long o k in
+      let l = long-enough 8194 17408 (length work) (length d) long .0 in
       first-promised n e
       (ap₂ (λ (c : List ℕ) (z : Answer). headedText (readListing program job (bothOver false program job work) c) (headingOf z)) (e .2) (e .0) ∙ first-printed program job work d long l ∙ inv (list-printed program job work d long)) p

@@ -40,8 +40,8 @@ use Rattle.resolve.specs.RunAnswer as runs
 use Rattle.resolve.specs.ListAnswer.{worded, answerOf, cellsAfter, tooShort, listLeft}
 use Rattle.answers.specs.declared.list.Answer.{Answer}
 use Rattle.answers.specs.Headings.{headingOf}
-use Rattle.answers.specs.declared.run.Answer.{Answer as RunAnswer}
-use Rattle.answers.specs.declared.run.Answer.the-variants.{Value as ValueOf, Over as OverOf, NotWithin as NotWithinOf, Program as RunProgram, Job as RunJob, Short as RunShort}
+use Rattle.run_answers.specs.declared.run.Answer.{Answer as RunAnswer}
+use Rattle.run_answers.specs.declared.run.Answer.the-variants.{Value as ValueOf, Over as OverOf, NotWithin as NotWithinOf, Program as RunProgram, Job as RunJob, Short as RunShort}
 use Rattle.answers.specs.declared.list.Word.{Word as FirstWord}
 use Rattle.answers.specs.declared.list.Word.the-variants.{Whole as WholeWord, Cut as CutWord, Stop21 as Word21, Stop22 as Word22, Stop23 as Word23}
 use Rattle.writer.specs.declared.outcome.Outcome.{Outcome}

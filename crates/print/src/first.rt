@@ -5,8 +5,8 @@ use crate::list::print_listing;
 use answers::heading::Heading;
 use answers::heading::heading_of;
 use answers::list::Answer;
+use lent::room::short_for_lines;
 use reading::both::read_both;
-use resolve::list;
 use resolve::list::list_read;
 use writer::refusal::print_refusal;
 ghost use mathlib.Core.Path.{_≡_};
@@ -129,10 +129,7 @@ pub fn list_first(
 ) -> Listed
     ensures { λ r. ⌜ (let w = listLeft (now (program .entry)) (now (job .entry)) (now (work .entry)) (now (answer .entry)) in let text = listedText (now (program .entry)) (now (job .entry)) (w .cells) (w .answer) in ((r .answer ≡ w .answer) × (now (work .exit) ≡ w .work) × (now (answer .exit) ≡ w .cells)) × ((r .bytes ≡ min (length (now (out .entry))) (length text)) × (now (out .exit) ≡ windowed (length (now (out .entry))) 0 text))) × (tooShort (now (work .entry)) (now (answer .entry)) ≡ false → (let w = listLeft (now (program .entry)) (now (job .entry)) (now (work .entry)) (now (answer .entry)) in listedText (now (program .entry)) (now (job .entry)) (w .cells) (w .answer) ≡ listText (now (program .entry)) (now (job .entry)))) × ((s : SProg) (t : SJob) → reading lister (now (program .entry)) (now (job .entry)) ≡ accepted s t → Answered (r .answer) → StoredListing (prog s) (class t) (t .steps .num) (limits t) (r .answer) (now (answer .exit))) ⌝ }
 {
-    if work.len() < list::WORK {
-        return short(out);
-    }
-    if answer.len() < list::ANSWER {
+    if short_for_lines(work, answer) {
         return short(out);
     }
     first_texts(program, job, work, answer, out)

@@ -1,6 +1,6 @@
 // The line that a run prints, from the two texts and from what `resolve::run` answered and left.
 use crate::names::read_names;
-use answers::run::Answer;
+use run_answers::run::Answer;
 use writer::outcome::Outcome;
 use writer::outcome::print_outcome;
 use writer::refusal::print_refusal;

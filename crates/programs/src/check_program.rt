@@ -1,9 +1,10 @@
-// The check of a program by its tokens: "Program: 6; then 7, 8, 9 at the earliest token" (01, "From the input"). The tokens, n of them,
-// were read without refusal.
+// The check of a program by its tokens: "Program: 6; then 7, 8, 9 at the earliest token" (01, "From the input"), and 13 "after 6 and before 7, 8 and 9"
+// (02, request 1). The tokens, n of them, were read without refusal.
 use crate::check_terms::Reach;
 use crate::check_terms::find;
 use crate::check_terms::put;
 use crate::check_terms::term;
+use checker::check::Bodies;
 use checker::check::Defs;
 use checker::check::Names;
 use checker::check::Verdict;
@@ -19,6 +20,7 @@ use checker::places::offset;
 use words::keys::CLOSE_LIST;
 use words::keys::END;
 ghost use mathlib.Core.Path.{_≡_};
+ghost use Rattle.checker.specs.declared.check.Verdict.the-variants.{Fine};
 ghost use Rattle.checker.specs.twins.CheckAt.{added, noDefs, noNames};
 ghost use Rattle.checker.specs.twins.CheckStored.{paramsAt, paramsEnd, paramsTwice, headTwice, walkedBody, defAt, defsAt, bodyAt, bodiesAt, programAt};
 
@@ -190,7 +192,7 @@ pub fn definitions(marks: &[u16], nums: &[u16], ats: &[u16], n: usize) -> Defs
     defs(marks, nums, ats, n, 64, no_defs())
 }
 
-// 7, 8, 9 in the body of the definition whose name stands at `h`.
+// The body of the definition whose name stands at `h`, with its parameters in reach, for 13 and 7, 8, 9.
 fn body(
     marks: &[u16],
     nums: &[u16],
@@ -199,7 +201,7 @@ fn body(
     heads: &[usize],
     count: usize,
     h: usize,
-) -> Verdict
+) -> Walked
     ensures { λ r. ⌜ r ≡ bodyAt (now (marks .entry)) (now (nums .entry)) (now (ats .entry)) n (now (heads .entry)) count h ⌝ }
 {
     let p = ahead(n, 2, h);
@@ -208,11 +210,10 @@ fn body(
     let mut cells = sc.cells;
     let used = sc.used;
     let reach = Reach { room: 63, used };
-    let t = term(marks, nums, ats, n, heads, count, reach, &mut cells, start);
-    t.uses
+    term(marks, nums, ats, n, heads, count, reach, &mut cells, start)
 }
 
-// And in those of all definitions: a body is looked at only where those before it are fine.
+// And those of all definitions. All are walked: a 13 comes before the 7, 8 or 9 of an earlier body.
 fn bodies(
     marks: &[u16],
     nums: &[u16],
@@ -220,23 +221,21 @@ fn bodies(
     n: usize,
     heads: &[usize],
     count: usize,
-) -> Verdict
-    ensures { λ r. ⌜ r ≡ bodiesAt (now (marks .entry)) (now (nums .entry)) (now (ats .entry)) n (now (heads .entry)) count count 0 ⌝ }
+) -> Bodies
+    ensures { λ r. ⌜ r ≡ bodiesAt (now (marks .entry)) (now (nums .entry)) (now (ats .entry)) n (now (heads .entry)) count count 0 Fine Fine ⌝ }
 {
+    let mut rebound = Verdict::Fine;
+    let mut uses = Verdict::Fine;
     let mut j: usize = 0;
     while j < count {
-        let v = body(marks, nums, ats, n, heads, count, index(heads, j));
-        match v {
-            Verdict::Fine => {
-                j += 1;
-                continue;
-            }
-            Verdict::Fault { number, offset } => {
-                return Verdict::Fault { number, offset };
-            }
-        }
+        let t = body(marks, nums, ats, n, heads, count, index(heads, j));
+        let v = t.rebound;
+        let w = t.uses;
+        rebound = first(rebound, v);
+        uses = first(uses, w);
+        j += 1;
     }
-    Verdict::Fine
+    Bodies { rebound, uses }
 }
 
 // The first fault of a program.
@@ -246,5 +245,8 @@ pub fn check_program(marks: &[u16], nums: &[u16], ats: &[u16], n: usize) -> Verd
     let ds = definitions(marks, nums, ats, n);
     let count = ds.count;
     let names = ds.names;
-    first(names, bodies(marks, nums, ats, n, &ds.heads, count))
+    let found = bodies(marks, nums, ats, n, &ds.heads, count);
+    let rebound = found.rebound;
+    let uses = found.uses;
+    first(names, first(rebound, uses))
 }

@@ -1,13 +1,15 @@
-// The check of terms by their tokens: 6 in `cons?`, 7, 8, 9 (01, "From the input"). `heads`, `count` of them, are the definitions, each by
+// The check of terms by their tokens: 6 and 13 in `cons?`, 7, 8, 9 (01, "From the input"; 02, request 1). `heads`, `count` of them, are the definitions, each by
 // the index of its name; `cells`, `used` of them, are the names in reach. A branch writes its own behind these, and keeps these.
+use checker::check::Verdict;
 use checker::check::Walked;
 use checker::check::both;
+use checker::check::branched;
 use checker::check::called;
 use checker::check::first;
 use checker::check::index;
 use checker::check::judge;
-use checker::check::negated;
 use checker::check_expressions::args;
+use checker::check_expressions::binding;
 use checker::check_expressions::ea;
 use checker::check_expressions::exp;
 use checker::check_expressions::leaf;
@@ -111,22 +113,20 @@ fn eqa(
     let c_past = c.past;
     let d = ea(marks, nums, ats, n, room, cells, used, c_past);
     let d_past = d.past;
+    let c_uses = c.uses;
+    let d_uses = d.uses;
+    let asked = Walked {
+        past: d_past,
+        names: Verdict::Fine,
+        rebound: Verdict::Fine,
+        uses: first(c_uses, d_uses),
+    };
     let start = ahead(n, 1, d_past);
     let s = term(marks, nums, ats, n, heads, count, reach, cells, start);
     let s_past = s.past;
     let u = term(marks, nums, ats, n, heads, count, reach, cells, s_past);
     let u_past = u.past;
-    let s_names = s.names;
-    let u_names = u.names;
-    let c_uses = c.uses;
-    let d_uses = d.uses;
-    let s_uses = s.uses;
-    let u_uses = u.uses;
-    Walked {
-        past: ahead(n, 1, u_past),
-        names: first(s_names, u_names),
-        uses: first(c_uses, first(d_uses, first(s_uses, u_uses))),
-    }
+    branched(ahead(n, 1, u_past), asked, s, u)
 }
 
 // "`(if (cons? e xe xe xa) t t)`": "The true branch of `cons?` has its two xe, the false branch its xa, neither the other's."
@@ -149,6 +149,7 @@ fn consp(
     let h = c.past;
     let t = ahead(n, 1, h);
     let x = ahead(n, 2, h);
+    let asked = binding(marks, nums, ats, n, cells, used, c);
     let one = put(cells, used, h);
     let two = put(cells, one, t);
     let start = ahead(n, 4, h);
@@ -159,21 +160,7 @@ fn consp(
     let on_false = Reach { room, used: other };
     let u = term(marks, nums, ats, n, heads, count, on_false, cells, k);
     let u_past = u.past;
-    let s_names = s.names;
-    let u_names = u.names;
-    let c_uses = c.uses;
-    let s_uses = s.uses;
-    let u_uses = u.uses;
-    let twice = judge(
-        negated(num(nums, n, h) == num(nums, n, t)),
-        6,
-        offset(ats, n, t),
-    );
-    Walked {
-        past: ahead(n, 1, u_past),
-        names: first(twice, first(s_names, u_names)),
-        uses: first(c_uses, first(s_uses, u_uses)),
-    }
+    branched(ahead(n, 1, u_past), asked, s, u)
 }
 
 // A t: "`(call F [e ..])`, `(if k t t)` or e".

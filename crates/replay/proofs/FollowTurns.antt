@@ -5,7 +5,7 @@ use mathlib.Core.Bool.{cond}
 use mathlib.Core.List.{List}
 use native.Mathlib.Omega.{arith}
 use Rattle.replay.specs.twins.Replaying.{isThere, ReplayLeft, replayLeft, onward, followStep, followFrom}
-use Rattle.replay.specs.declared.position.Position.{Position}
+use Rattle.positions.specs.declared.position.Position.{Position}
 
 none-left : (n : ℕ) → n ≤ 0 → n ≡ 0
 none-left n l = omega arith

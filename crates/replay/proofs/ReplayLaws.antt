@@ -34,10 +34,11 @@ use Rattle.tracing.proofs.ShowLaws.{Accepted, Looked, Shows, shows}
 use Rattle.trails.specs.twins.TrailCells.{takenAt, pendingAt}
 use Rattle.trails.proofs.TrailLaws.{PathHeld, path-at, trail-length}
 use Rattle.trails.proofs.ReachLaws.{Decides, reaches-rest, FirstOf, first-of, none-left, trail-joined}
-use Rattle.replay.specs.twins.Positions.{movedFrom}
+use Rattle.positions.specs.twins.Positions.{movedFrom}
 use Rattle.replay.specs.twins.Rooms.{RoomLeft, madeRoom}
-use Rattle.replay.specs.twins.Replaying.{isThere, savedIf, ReplayLeft, replayLeft, steppedTo, followStep, onward, followFrom, keptTop, broughtBack}
-use Rattle.replay.specs.declared.position.Position.{Position}
+use Rattle.replay.specs.twins.Replaying.{isThere, savedIf, ReplayLeft, replayLeft, steppedTo, followStep, onward, followFrom, broughtBack}
+use Rattle.positions.specs.twins.Positions.{keptTop}
+use Rattle.positions.specs.declared.position.Position.{Position}
 use Rattle.replay.proofs.RecordLaws.{Entered, Recorded, loaded-stands, Rooted, Saves, only, passed, keeps, saves-more, saves-below, saves-constants, saves-first, saves-take, Resumed, from-base, from-choice, resumed-latest}
 use Rattle.replay.proofs.RoomLaws.{Kept, At, room-made}
 

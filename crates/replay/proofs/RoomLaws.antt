@@ -24,8 +24,9 @@ use Rattle.saving.proofs.HoldingLaws.{used-means}
 use Rattle.saving.proofs.SavedLaws.{OlderHeld, older-means}
 use Rattle.values.proofs.StateLaws.{trees, HoldsPair, Stands, nodes-length}
 use Rattle.values.proofs.PairLaws.{state-nodes}
-use Rattle.replay.specs.twins.Rooms.{isFull, isTight, withUsed, floorTop, RoomLeft, roomLeft, togetherBehind, madeRoom}
-use Rattle.replay.specs.declared.position.Position.{Position}
+use Rattle.replay.specs.twins.Rooms.{floorTop, RoomLeft, roomLeft, togetherBehind, madeRoom}
+use Rattle.positions.specs.twins.Used.{isFull, isTight, withUsed}
+use Rattle.positions.specs.declared.position.Position.{Position}
 use Rattle.replay.proofs.RecordLaws.{Entered, Saves, saves-more, saves-below, saves-floor, saves-first, saves-take, Older}
 
 module _ (p : Prog) (bodies : ℕ → ℕ) (code : List ℕ) (K₀ : Configuration) (N : ℕ) (y₁ : Node) (b₀ : Record) where

@@ -1,5 +1,4 @@
 // Room for the next transition, and a path worked out again ("however often a path is worked out again"). What the functions come to is defined in
 // specs/.
-pub mod position;
 pub mod replay;
 pub mod room;

@@ -1,10 +1,11 @@
 // A configuration of the path brought back: the latest saved one, and from there the path's transitions again, saving again.
-use crate::position::Bounds;
-use crate::position::Position;
-use crate::position::after_step;
 use crate::room::make_room;
 use linking::code::CALL;
 use linking::code::link_at;
+use positions::position::Bounds;
+use positions::position::Position;
+use positions::position::after_step;
+use positions::position::taken_up;
 use saving::head::Node;
 use saving::saved::load;
 use saving::saved::save;
@@ -17,7 +18,7 @@ ghost use mathlib.Core.Path.{_≡_};
 ghost use mathlib.Core.Bool.{Bool};
 ghost use Prim.Native.Nat.{_-_};
 ghost use Rattle.saving.specs.twins.Saving.{saveLeft};
-ghost use Rattle.replay.specs.twins.Replaying.{isThere, keptTop, savedIf, replayLeft, followStep, followFrom, broughtBack};
+ghost use Rattle.replay.specs.twins.Replaying.{isThere, savedIf, replayLeft, followStep, followFrom, broughtBack};
 
 // Whether the choice number `last` is to be made here.
 fn is_there(code: &[u16; 24582], n: Node, last: usize) -> bool
@@ -100,16 +101,6 @@ fn follow(
     p
 }
 
-// The first saved configuration stays.
-fn kept_top(from: usize, top: usize, base: usize) -> usize
-    ensures { λ r. ⌜ r ≡ keptTop from top base ⌝ }
-{
-    if top <= base {
-        return base;
-    }
-    from
-}
-
 // The configuration at which the choice number `last` of the path is made; `top` is that of the saved ones.
 pub fn bring_back(
     code: &[u16; 24582],
@@ -125,10 +116,6 @@ pub fn bring_back(
     ensures { λ r. ⌜ replayLeft r (now (heap .exit)) (now (frame .exit)) (now (q .exit)) (now (saved .exit)) ≡ broughtBack (now (code .entry)) (now (path .entry)) (b .base) last (b .steps) top (now (heap .entry)) (now (frame .entry)) (now (q .entry)) (now (saved .entry)) ⌝ }
 {
     let back = load(saved, top, frame, q);
-    let n = back.node;
-    let p = Position {
-        node: n,
-        top: kept_top(back.top, top, b.base),
-    };
+    let p = taken_up(back, top, b.base);
     follow(code, heap, frame, q, path, saved, p, last, b)
 }

@@ -1,44 +1,14 @@
 // Room for a transition: what is written along a path and no longer in use is given back before the heap is full.
-use crate::position::Position;
-use crate::position::position_at;
-use cells::cell;
 use compaction::compact::compact;
-use heap::configuration::Configuration;
+use positions::position::Position;
+use positions::position::position_at;
+use positions::used::is_full;
+use positions::used::is_tight;
+use positions::used::with_used;
 use saving::head::used_at;
 use saving::saved::older_used;
 ghost use mathlib.Core.Path.{_≡_};
-ghost use Rattle.replay.specs.twins.Rooms.{isFull, isTight, withUsed, floorTop, roomLeft, madeRoom};
-
-// A transition or a meeting writes less than the 24,576 cells that are then free.
-fn is_full(used: usize) -> bool
-    ensures { λ r. ⌜ r ≡ isFull used ⌝ }
-{
-    40959 < used
-}
-
-// Whether the heap is full, or much has been written since the latest configuration was saved, of which at most 4,096 cells are in use.
-pub fn is_tight(used: usize, floor: usize) -> bool
-    ensures { λ r. ⌜ r ≡ isTight used floor ⌝ }
-{
-    if is_full(used) {
-        return true;
-    }
-    cell::least(floor, 65535) + 8192 < used
-}
-
-pub fn with_used(c: Configuration, used: usize) -> Configuration
-    ensures { λ r. ⌜ r ≡ withUsed c used ⌝ }
-{
-    Configuration {
-        inputs: c.inputs,
-        outputs: c.outputs,
-        entries: c.entries,
-        used: used,
-        neqs: c.neqs,
-        place: c.place,
-        counter: c.counter,
-    }
-}
+ghost use Rattle.replay.specs.twins.Rooms.{floorTop, roomLeft, madeRoom};
 
 // Where the heap is full, the newer saved configurations are forgotten.
 fn floor_top(saved: &[u16; 16384], used: usize, top: usize, base: usize) -> usize

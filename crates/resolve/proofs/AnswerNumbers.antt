@@ -1,4 +1,4 @@
--- What the entries answer has one of 01's numbers: a text that is refused, 1 to 12.
+-- What the entries answer has one of the numbers of 01, "From the input" and "From the state": a text that is refused, 1 to 13.
 use Prim.Native.Nat.{ℕ, _≤_}
 use mathlib.Core.Path.{_≡_, refl}
 use mathlib.Core.Bool.{Bool, true, false}
@@ -14,7 +14,7 @@ use Rattle.semantics.specs.Runner.{Ran, value, ranOver, notWithin, nodesValue}
 use Rattle.semantics.specs.Answer as meaning
 use Rattle.lent.specs.Storage.{zeros}
 use Rattle.answers.specs.ListNumbers as lists
-use Rattle.answers.specs.RunNumbers as runs
+use Rattle.run_answers.specs.RunNumbers as runs
 use Rattle.resolve.specs.ListAnswer as listed
 use Rattle.resolve.specs.RunAnswer as ran
 

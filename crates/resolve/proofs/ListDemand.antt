@@ -1,10 +1,9 @@
 -- What `list` answers and leaves meets demands 2 and 3.
-use Prim.Native.Nat.{ℕ, _-_, _≤_, _<_}
+use Prim.Native.Nat.{ℕ, _-_}
 use mathlib.Core.Path.{_≡_, refl, ap, subst, _∙_, sym as inv}
 use mathlib.Core.Bool.{Bool, true, false}
 use mathlib.Core.List.{List}
 use lib.ListN.{length, replicate}
-use borrow.Author.Tests.{lt-ltb, le-ltb}
 use Rattle.language.specs.Source.{SProg, SJob, prog, class}
 use Rattle.language.specs.JobCheck.{lister}
 use Rattle.language.specs.Reading.{accepted, reading}
@@ -17,6 +16,7 @@ use Rattle.semantics.proofs.AcceptedStops.{listed-stops, listed-in-order, liste
 use Rattle.lent.specs.Storage.{zeros}
 use Rattle.lines.specs.LineCells.{linesCells}
 use Rattle.lines.proofs.ReadingLaws.{lines-read}
+use Rattle.lent.proofs.RoomLaws.{long-enough}
 use Rattle.resolve.specs.ListAnswer.{ListLeft, worded, answerOf, linesThen, cellsAfter, tooShort, unlessShort, listLeft}
 use Rattle.resolve.specs.twins.ListCells.{ListOut, listTexts}
 use Rattle.resolve.specs.ListDemand.{Ended, Answered, StoredListing}
@@ -86,16 +86,13 @@ module _ (program job work d : List ℕ) where
   pub promised : {r : Answer} {x a : List ℕ} → LeftAs program job work d r x a → Promise program job work d r x a
   promised e = ((e .0, e .1, e .2), λ s t f h. list-demand program job work d s t f (e .0) (e .2) h)
 
-  pub short-work : length work < 8194 → LeftAs program job work d Short work d
+  pub short-left : tooShort work d ≡ true → LeftAs program job work d Short work d
   unfolding listLeft
-  short-work l = rw (lt-ltb (length work) 8194 l) (refl, refl, refl)
+  short-left e = rw e (refl, refl, refl)
 
-  pub short-answer : 8194 ≤ length work → length d < 17408 → LeftAs program job work d Short work d
+  pub list-said : tooShort work d ≡ false → {r : Answer} {x a : List ℕ} → ListOut r x a (listTexts program job work d) → length a ≡ length d → LeftAs program job work d r x a
   unfolding listLeft
-  short-answer l m = rw (le-ltb (length work) 8194 l, lt-ltb (length d) 17408 m) (refl, refl, refl)
-
-  pub list-said : 8194 ≤ length work → 17408 ≤ length d → {r : Answer} {x a : List ℕ} → ListOut r x a (listTexts program job work d) → length a ≡ length d → LeftAs program job work d r x a
-  unfolding listLeft
-  list-said l m o n =
-      let e = texts-left program job work d l m (ap length (inv (o .2)) ∙ n) in
-      rw (le-ltb (length work) 8194 l, le-ltb (length d) 17408 m) (o .0 ∙ ap (λ w. w .answer) e, o .1 ∙ ap (λ w. w .work) e, o .2 ∙ ap (λ w. w .cells) e)
+  list-said f o n =
+      let l = long-enough 8194 17408 (length work) (length d) f in
+      let e = texts-left program job work d (l .0) (l .1) (ap length (inv (o .2)) ∙ n) in
+      rw f (o .0 ∙ ap (λ w. w .answer) e, o .1 ∙ ap (λ w. w .work) e, o .2 ∙ ap (λ w. w .cells) e)

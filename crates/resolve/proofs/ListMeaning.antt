@@ -14,6 +14,7 @@ use Rattle.language.specs.Tokens.{Text, ofProgram, ofJob, symbolsOf}
 use Rattle.language.specs.Source.{SProg, SJob, prog, class}
 use Rattle.language.specs.JobCheck.{lister}
 use Rattle.language.specs.Reading.{Reading, accepted, rejected, reading}
+use Rattle.language.specs.WellFormed.{admitted}
 use Rattle.language.proofs.Acceptance.{accepted-passed}
 use Rattle.lexer.specs.twins.Lexed.{State}
 use Rattle.syntax.specs.declared.job_ends.JobEnds.{JobEnds}
@@ -136,17 +137,20 @@ module _ (program job : List ℕ) (p : SProg) (j : SJob) (e : reading lister pro
   abbrev code : List ℕ
   code = programLinked (s .marks) (s .nums) (endsOf s) (headsOf s) (tableOf s .count) (replicate 24582 0)
 
+  formed : admitted (prog p) ≡ true
+  formed = accepted-passed lister program job p j e .admitted
+
   linked : ProgramLinked (prog p) bodies code
-  linked = accepted-linked program s p h (s .ats) (replicate 64 0) room (omega (arith, zeros-length 64)) (replicate 24582 0) (zeros-length 24582)
+  linked = accepted-linked program s p h (s .ats) (replicate 64 0) room (omega (arith, zeros-length 64)) formed (replicate 24582 0) (zeros-length 24582)
 
   ok : Accepted (prog p) bodies code
-  ok = record { linked = linked; formed = accepted-passed lister program job p j e .wellFormed; few = params-few program s p h }
+  ok = record { linked = linked; formed = formed; few = params-few program s p h }
 
   wide : length code ≡ 24582
-  wide = accepted-kept program s p h (s .ats) (replicate 64 0) room (omega (arith, zeros-length 64)) (replicate 24582 0) (zeros-length 24582) .0
+  wide = accepted-kept program s p h (s .ats) (replicate 64 0) room (omega (arith, zeros-length 64)) formed (replicate 24582 0) (zeros-length 24582) .0
 
   empty : NoConstants code
-  empty = nought-none code (λ m l. accepted-kept program s p h (s .ats) (replicate 64 0) room (omega (arith, zeros-length 64)) (replicate 24582 0) (zeros-length 24582) .1 m l ∙ nought-at 24582 m)
+  empty = nought-none code (λ m l. accepted-kept program s p h (s .ats) (replicate 64 0) room (omega (arith, zeros-length 64)) formed (replicate 24582 0) (zeros-length 24582) .1 m l ∙ nought-at 24582 m)
 
   abbrev tokens : ℕ
   tokens = programEnd (endsOf s) (headsOf s) (tableOf s .count)
@@ -179,7 +183,7 @@ module _ (program job : List ℕ) (p : SProg) (j : SJob) (e : reading lister pro
       on-leaves : Begins (prog p) bodies code (inMain (prog p) K) begun → Leaves back (walks (begun .answer))
       on-leaves b =
           let a = accepted-passed lister program job p j e in
-          let at = begun-place b (start-main (prog p) (class j) K (a .wellFormed) (a .fits) f .1) in
+          let at = begun-place b (start-main (prog p) (class j) K (a .admitted) (a .fits) f .1) in
           begun-means (prog p) bodies code tokens ok empty wide K (accepted-main lister program job p j e K f) begun b (limits j) (a .table) (a .walk) N (a .steps) numerals refl refl refl (omega arith)
           (start-reaches lister program job p j e K f N) (zeros d) nothing-held (omega (arith, zeros-length (length d)))
 

@@ -1,11 +1,10 @@
 -- What `run` answers and leaves meets demand 2.
-use Prim.Native.Nat.{ℕ, _-_, _≤_, _<_}
+use Prim.Native.Nat.{ℕ, _-_}
 use mathlib.Core.Path.{_≡_, refl, ap, subst, _∙_, sym as inv}
 use mathlib.Core.Bool.{Bool, true, false}
 use mathlib.Core.List.{List}
 use native.Mathlib.Omega.{arith}
 use lib.ListN.{length, replicate}
-use borrow.Author.Tests.{lt-ltb, le-ltb}
 use Rattle.expressions.specs.Expression.{Value}
 use Rattle.language.specs.Source.{SProg, SJob, prog}
 use Rattle.language.specs.JobCheck.{runner}
@@ -20,12 +19,13 @@ use Rattle.initial.proofs.EmbedLaws.{embed-nodes}
 use Rattle.lent.specs.Storage.{zeros}
 use Rattle.lines.specs.LineReading.{TreeRead, readTree}
 use Rattle.lines.proofs.ReadingLaws.{tree-read}
+use Rattle.lent.proofs.RoomLaws.{long-enough}
 use Rattle.resolve.specs.RunAnswer.{RunLeft, answerOf, cellsAfter, tooShort, unlessShort, runLeft}
 use Rattle.resolve.specs.twins.RunCells.{RunOut, runTexts}
 use Rattle.resolve.specs.RunDemand.{Answered, StoredRun}
-use Rattle.answers.specs.RunNumbers.{lengthOf}
-use Rattle.answers.specs.declared.run.Answer.{Answer}
-use Rattle.answers.specs.declared.run.Answer.the-variants.{Short}
+use Rattle.run_answers.specs.RunNumbers.{lengthOf}
+use Rattle.run_answers.specs.declared.run.Answer.{Answer}
+use Rattle.run_answers.specs.declared.run.Answer.the-variants.{Short}
 use Rattle.resolve.proofs.RunMeaning.{texts-left}
 
 module _ (program job work d : List ℕ) (s : SProg) (t : SJob) (e : reading runner program job ≡ accepted s t) where
@@ -86,16 +86,13 @@ module _ (program job work d : List ℕ) where
   pub promised : {r : Answer} {x a : List ℕ} → LeftAs program job work d r x a → Promise program job work d r x a
   promised e = ((e .0, e .1, e .2), λ s t f h. run-demand program job work d s t f (e .0) (e .2) h)
 
-  pub short-work : length work < 8194 → LeftAs program job work d Short work d
+  pub short-left : tooShort work d ≡ true → LeftAs program job work d Short work d
   unfolding runLeft
-  short-work l = rw (lt-ltb (length work) 8194 l) (refl, refl, refl)
+  short-left e = rw e (refl, refl, refl)
 
-  pub short-answer : 8194 ≤ length work → length d < 4096 → LeftAs program job work d Short work d
+  pub run-said : tooShort work d ≡ false → {r : Answer} {x a : List ℕ} → RunOut r x a (runTexts program job work d) → LeftAs program job work d r x a
   unfolding runLeft
-  short-answer l m = rw (le-ltb (length work) 8194 l, lt-ltb (length d) 4096 m) (refl, refl, refl)
-
-  pub run-said : 8194 ≤ length work → 4096 ≤ length d → {r : Answer} {x a : List ℕ} → RunOut r x a (runTexts program job work d) → LeftAs program job work d r x a
-  unfolding runLeft
-  run-said l m o =
-      let e = texts-left program job work d l m in
-      rw (le-ltb (length work) 8194 l, le-ltb (length d) 4096 m) (o .0 ∙ ap (λ w. w .answer) e, o .1 ∙ ap (λ w. w .work) e, o .2 ∙ ap (λ w. w .cells) e)
+  run-said f o =
+      let l = long-enough 8194 4096 (length work) (length d) f in
+      let e = texts-left program job work d (l .0) (l .1) in
+      rw f (o .0 ∙ ap (λ w. w .answer) e, o .1 ∙ ap (λ w. w .work) e, o .2 ∙ ap (λ w. w .cells) e)

@@ -13,7 +13,7 @@ use Rattle.language.specs.Bytes.{Refusal}
 use Rattle.language.specs.Tokens.{Text, ofProgram, ofJob, symbolsOf}
 use Rattle.language.specs.Source.{SProg, SJob, prog, class}
 use Rattle.language.specs.JobCheck.{runner}
-use Rattle.language.specs.WellFormed.{fits}
+use Rattle.language.specs.WellFormed.{fits, admitted}
 use Rattle.language.specs.Reading.{accepted, rejected, reading}
 use Rattle.language.proofs.Acceptance.{accepted-passed}
 use Rattle.lexer.specs.twins.Lexed.{State}
@@ -45,8 +45,8 @@ use Rattle.forward.specs.twins.Running.{runBegun, runInputs}
 use Rattle.running.specs.declared.ran.Ran.{Ran as RanCells}
 use Rattle.forward.proofs.RunMeans.{RanMeans, runner-over, run-means}
 use Rattle.resolve.specs.RunAnswer.{RunLeft, answerOf, cellsAfter}
-use Rattle.answers.specs.declared.run.Answer.{Answer as Outcome}
-use Rattle.answers.specs.declared.run.Answer.the-variants.{Value as ValueOf, Over, NotWithin}
+use Rattle.run_answers.specs.declared.run.Answer.{Answer as Outcome}
+use Rattle.run_answers.specs.declared.run.Answer.the-variants.{Value as ValueOf, Over, NotWithin}
 use Rattle.reading.specs.twins.BothCells.{BothAnswer, bothOver}
 use Rattle.resolve.specs.twins.RunCells.{answerRan, RunOut, ranLeft, runBehind, runTexts}
 use Rattle.reading.specs.declared.both.Both.{Both}
@@ -87,14 +87,17 @@ module _ (program job : List ℕ) (p : SProg) (j : SJob) (e : reading runner pro
   abbrev code : List ℕ
   code = programLinked (s .marks) (s .nums) (endsOf s) (headsOf s) (tableOf s .count) (replicate 24582 0)
 
+  formed : admitted (prog p) ≡ true
+  formed = accepted-passed runner program job p j e .admitted
+
   linked : ProgramLinked (prog p) bodies code
-  linked = accepted-linked program s p h (s .ats) (replicate 64 0) room (omega (arith, zeros-length 64)) (replicate 24582 0) (zeros-length 24582)
+  linked = accepted-linked program s p h (s .ats) (replicate 64 0) room (omega (arith, zeros-length 64)) formed (replicate 24582 0) (zeros-length 24582)
 
   ok : Accepted (prog p) bodies code
-  ok = record { linked = linked; formed = accepted-passed runner program job p j e .wellFormed; few = params-few program s p h }
+  ok = record { linked = linked; formed = formed; few = params-few program s p h }
 
   empty : NoConstants code
-  empty = nought-none code (λ m l. accepted-kept program s p h (s .ats) (replicate 64 0) room (omega (arith, zeros-length 64)) (replicate 24582 0) (zeros-length 24582) .1 m l ∙ nought-at 24582 m)
+  empty = nought-none code (λ m l. accepted-kept program s p h (s .ats) (replicate 64 0) room (omega (arith, zeros-length 64)) formed (replicate 24582 0) (zeros-length 24582) .1 m l ∙ nought-at 24582 m)
 
   -- main's body over zeroed storages
   abbrev begun : BegunLeft

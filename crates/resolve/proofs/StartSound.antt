@@ -10,7 +10,7 @@ use Rattle.expressions.specs.Restriction.{Restriction, simplify}
 use Rattle.expressions.specs.Class.{IOClass}
 use Rattle.language.specs.Program.{Term, Prog, find}
 use Rattle.expressions.specs.Split.{firstFresh}
-use Rattle.language.specs.WellFormed.{fits, wellFormed}
+use Rattle.language.specs.WellFormed.{fits, admitted}
 use Rattle.language.specs.Source.{SProg, SJob, prog, class}
 use Rattle.language.specs.JobCheck.{Tool}
 use Rattle.language.specs.Reading.{accepted, reading}
@@ -31,7 +31,7 @@ start-as : (p : Prog) (P : IOClass) (o : Option Restriction) (K : Configuration)
 start-as p P none K e = let z : _≡_ {A = ℕ} 0 1 = cc in absurd (omega arith)
 start-as p P (some qs) K e = (cc, cc)
 
-module _ (p : Prog) (P : IOClass) (formed : wellFormed p ≡ true) (fit : fits (find p 0 .params) (P .con .ins) ≡ true) (low : firstFresh P ≤ 16381) where
+module _ (p : Prog) (P : IOClass) (formed : admitted p ≡ true) (fit : fits (find p 0 .params) (P .con .ins) ≡ true) (low : firstFresh P ≤ 16381) where
   pub start-sound : (K : Configuration) → start p P ≡ some K → Sound p K
   start-sound K f =
       let is = start-as p P (simplify (P .neqs)) K f in
@@ -60,9 +60,9 @@ module _ (tool : Tool) (first text : List ℕ) (p : SProg) (j : SJob) (e : readi
   sound-by (no l) bs m y r =
       let a = accepted-passed tool first text p j e in
       subst (λ (z : Node). Sound (prog p) (z .conf)) (stays (prog p) r (omega arith) (accepted-main tool first text p j e K f))
-      (start-sound (prog p) (class j) (a .wellFormed) (a .fits) (omega (arith, accepted-numbers tool first text p j e .fresh)) K f)
+      (start-sound (prog p) (class j) (a .admitted) (a .fits) (omega (arith, accepted-numbers tool first text p j e .fresh)) K f)
 
   pub start-reaches : (bs : List Bool) (m : ℕ) (y : Node) → Reaches (prog p) Small N (root K) bs m y → Sound (prog p) (y .conf) × Scoped (prog p) (y .conf)
   start-reaches bs m y r =
       let a = accepted-passed tool first text p j e in
-      (sound-by (decLe (nodesState (K .cr)) 4096) bs m y r, reaches-holds (Scoped (prog p)) (prog p) (successors-scoped (prog p) (a .wellFormed)) r (start-scoped (prog p) (class j) K (a .wellFormed) (a .fits) f))
+      (sound-by (decLe (nodesState (K .cr)) 4096) bs m y r, reaches-holds (Scoped (prog p)) (prog p) (successors-scoped (prog p) (a .admitted)) r (start-scoped (prog p) (class j) K (a .admitted) (a .fits) f))

@@ -1,4 +1,4 @@
--- Tools that the contracts of `list` and `run` shut out, whatever else they leave (01: "so the tool that refuses all jobs falls"): what each says contradicts the
+-- Tools that the contracts of `list` and `run` shut out, whatever else they leave (01, "From the state": "so the tool that refuses all jobs falls"): what each says contradicts the
 -- clause of its entry.
 use Prim.Native.Nat.{ℕ, _≤_}
 use mathlib.Core.Path.{_≡_, refl, sym as inv}
@@ -20,7 +20,7 @@ use Rattle.resolve.specs.ListDemand.{StoredListing}
 use Rattle.resolve.specs.RunDemand.{StoredRun}
 use Rattle.answers.specs.declared.list.Answer.the-variants.{Listed}
 use Rattle.answers.specs.declared.list.Word.the-variants.{Whole, Stop23}
-use Rattle.answers.specs.declared.run.Answer.the-variants.{Over}
+use Rattle.run_answers.specs.declared.run.Answer.the-variants.{Over}
 
 is-over : (r : Ran) → Over ≡ answerOf (answered r) → r ≡ ranOver
 is-over (value s v) e = let k : _≡_ {A = ℕ} 0 1 = cc in absurd (omega arith)

@@ -19,7 +19,7 @@ use Rattle.answers.specs.declared.list.Answer.{Answer}
 use Rattle.answers.specs.declared.list.Answer.the-variants.{Listed, Program, Job, Short}
 use Rattle.answers.specs.declared.list.Word.the-variants.{Whole, Cut, Stop21, Stop22, Stop23}
 
--- "01's walk ends as whole or cut"
+-- demand 3: "01's walk ends as whole or cut"
 abbrev pub Ended : Answer → Type 0
 Ended (Listed Whole lines count) = Unit {0}
 Ended (Listed Cut lines count) = Unit {0}
@@ -52,5 +52,5 @@ pub record StoredListing (p : Prog) (j : IOClass) (n : ℕ) (lim : Limits) (r : 
   -- the first stop in the order of the walk, and what is found before it; the walk's configurations are those of the rules
   pub inOrder : InOrder p n j lim listing
   pub byTheRules : (c : Configuration) → start p j ≡ some c → VisitsByTheRules p n c (visits p n j)
-  -- "if .. 01's walk ends as whole or cut"
+  -- demand 3: "if .. 01's walk ends as whole or cut"
   pub correct : Ended r → ListingCorrect p j n listing

@@ -11,8 +11,8 @@ use Rattle.semantics.specs.Embedding.{embed}
 use Rattle.semantics.specs.Runner.{Ran, value, ranOver, notWithin, nodesValue}
 use Rattle.semantics.specs.Answer as meaning
 use Rattle.lent.specs.Storage.{zeros}
-use Rattle.answers.specs.declared.run.Answer.{Answer}
-use Rattle.answers.specs.declared.run.Answer.the-variants.{Value as ValueOf, Over, NotWithin, Program, Job, Short}
+use Rattle.run_answers.specs.declared.run.Answer.{Answer}
+use Rattle.run_answers.specs.declared.run.Answer.the-variants.{Value as ValueOf, Over, NotWithin, Program, Job, Short}
 
 -- an answer, the working storage and the answer storage
 pub record RunLeft : Type 0 where

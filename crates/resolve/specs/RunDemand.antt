@@ -11,9 +11,9 @@ use Rattle.semantics.specs.Demand2.{NeverStuck, RunnerCorrect}
 use Rattle.semantics.specs.Stops.{RunnerStops}
 use Rattle.lines.specs.LineReading.{readTree}
 use Rattle.resolve.specs.RunAnswer.{answerOf}
-use Rattle.answers.specs.RunNumbers.{lengthOf}
-use Rattle.answers.specs.declared.run.Answer.{Answer}
-use Rattle.answers.specs.declared.run.Answer.the-variants.{Value as ValueOf, Over, NotWithin, Program, Job, Short}
+use Rattle.run_answers.specs.RunNumbers.{lengthOf}
+use Rattle.run_answers.specs.declared.run.Answer.{Answer}
+use Rattle.run_answers.specs.declared.run.Answer.the-variants.{Value as ValueOf, Over, NotWithin, Program, Job, Short}
 
 -- what a run came to: no refusal
 abbrev pub Answered : Answer → Type 0

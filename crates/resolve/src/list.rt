@@ -5,6 +5,8 @@ use answers::list::Word;
 use answers::list::unstopped;
 use initial::begin::main_body;
 use lent::clear::clear;
+use lent::room;
+use lent::room::short_for_lines;
 use linking::program::link_program;
 use linking::program::program_end;
 use reading::both::Both;
@@ -22,9 +24,9 @@ ghost use Rattle.resolve.specs.ListDemand.{Answered, StoredListing};
 ghost use Rattle.resolve.specs.twins.ListCells.{endedAs, cameTo, readLeft, listedRead, ListOut, listTexts};
 
 // The least lengths of the lent storages, in cells.
-pub const WORK: usize = 8194;
+pub const WORK: usize = room::WORK;
 
-pub const ANSWER: usize = 17408;
+pub const ANSWER: usize = room::LINES;
 
 // Where nothing is untaken the walk isn't stopped; else by what stopped it: 21, 22 or 23.
 fn ended_as(ending: Ending, cut: bool) -> Word
@@ -128,10 +130,7 @@ fn list_texts(program: &[u8], job: &[u8], work: &mut [u16], answer: &mut [u16]) 
 pub fn list(program: &[u8], job: &[u8], work: &mut [u16], answer: &mut [u16]) -> Answer
     ensures { λ r. ⌜ (let w = listLeft (now (program .entry)) (now (job .entry)) (now (work .entry)) (now (answer .entry)) in (r ≡ w .answer) × (now (work .exit) ≡ w .work) × (now (answer .exit) ≡ w .cells)) × ((s : SProg) (t : SJob) → reading lister (now (program .entry)) (now (job .entry)) ≡ accepted s t → Answered r → StoredListing (prog s) (class t) (t .steps .num) (limits t) r (now (answer .exit))) ⌝ }
 {
-    if work.len() < WORK {
-        return Answer::Short;
-    }
-    if answer.len() < ANSWER {
+    if short_for_lines(work, answer) {
         return Answer::Short;
     }
     list_texts(program, job, work, answer)

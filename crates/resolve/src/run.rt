@@ -1,11 +1,13 @@
 // The forward runner over two texts (01, "Running forwards"): "The runner reads a whole job text, checks it, and uses only the inputs and
 // N." What it answers and leaves is defined in specs/RunAnswer.antt.
-use answers::run::Answer;
 use forward::inputs::run_inputs;
 use lent::clear::clear;
+use lent::room;
+use lent::room::short_for_value;
 use linking::program::link_program;
 use reading::both::Both;
 use reading::both::read_both;
+use run_answers::run::Answer;
 use running::ran::Ran;
 ghost use mathlib.Core.Path.{_≡_};
 ghost use Rattle.language.specs.Source.{SProg, SJob, prog};
@@ -17,9 +19,9 @@ ghost use Rattle.resolve.specs.RunDemand.{Answered, StoredRun};
 ghost use Rattle.resolve.specs.twins.RunCells.{answerRan, RunOut, runTexts};
 
 // The least lengths of the lent storages, in cells.
-pub const WORK: usize = 8194;
+pub const WORK: usize = room::WORK;
 
-pub const ANSWER: usize = 4096;
+pub const ANSWER: usize = room::VALUE;
 
 fn answer_of(ran: Ran) -> Answer
     ensures { λ r. ⌜ r ≡ answerRan ran ⌝ }
@@ -80,10 +82,7 @@ fn run_texts(program: &[u8], job: &[u8], work: &mut [u16], answer: &mut [u16]) -
 pub fn run(program: &[u8], job: &[u8], work: &mut [u16], answer: &mut [u16]) -> Answer
     ensures { λ r. ⌜ (let w = runLeft (now (program .entry)) (now (job .entry)) (now (work .entry)) (now (answer .entry)) in (r ≡ w .answer) × (now (work .exit) ≡ w .work) × (now (answer .exit) ≡ w .cells)) × ((s : SProg) (t : SJob) → reading runner (now (program .entry)) (now (job .entry)) ≡ accepted s t → Answered r → StoredRun (prog s) (t .steps .num) (inputs t) r (now (answer .exit))) ⌝ }
 {
-    if work.len() < WORK {
-        return Answer::Short;
-    }
-    if answer.len() < ANSWER {
+    if short_for_value(work, answer) {
         return Answer::Short;
     }
     run_texts(program, job, work, answer)

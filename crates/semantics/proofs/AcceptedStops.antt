@@ -21,17 +21,17 @@ use Rattle.semantics.proofs.RunnerStops.{runner-stops}
 module _ (p j : List ℕ) (s : SProg) (t : SJob) where
   -- "Each number comes under its condition and otherwise never"
   pub listed-stops : reading lister p j ≡ accepted s t → Stops (prog s) (t .steps .num) (class t) (limits t) (walked s t)
-  listed-stops e = let a = accepted-passed lister p j s t e in resolve-stops (prog s) (class t) (t .steps .num) (limits t) (a .wellFormed) (a .fits)
+  listed-stops e = let a = accepted-passed lister p j s t e in resolve-stops (prog s) (class t) (t .steps .num) (limits t) (a .admitted) (a .fits)
 
   -- "after 21 to 23 the lines found before": the first stop in the order of the walk
   pub listed-in-order : reading lister p j ≡ accepted s t → InOrder (prog s) (t .steps .num) (class t) (limits t) (walked s t)
-  listed-in-order e = let a = accepted-passed lister p j s t e in resolve-in-order (prog s) (class t) (t .steps .num) (limits t) (a .wellFormed) (a .fits)
+  listed-in-order e = let a = accepted-passed lister p j s t e in resolve-in-order (prog s) (class t) (t .steps .num) (limits t) (a .admitted) (a .fits)
 
   pub listed-visits : reading lister p j ≡ accepted s t → (c : Configuration) → start (prog s) (class t) ≡ some c →
       VisitsByTheRules (prog s) (t .steps .num) c (visits (prog s) (t .steps .num) (class t))
-  listed-visits e c h = let a = accepted-passed lister p j s t e in visits-by-the-rules (prog s) (t .steps .num) (class t) c (a .wellFormed) (a .fits) h
+  listed-visits e c h = let a = accepted-passed lister p j s t e in visits-by-the-rules (prog s) (t .steps .num) (class t) c (a .admitted) (a .fits) h
 
   -- "It stops only with 21 or `not within N`"
   pub ran-stops : reading runner p j ≡ accepted s t → RunnerStops (prog s) (t .steps .num) (inputs t) (ran s t)
   ran-stops e = let a = accepted-passed runner p j s t e in
-      runner-stops (prog s) (t .steps .num) (inputs t) (a .wellFormed) (ground-fits _ (find (prog s) 0 .params) (class t .con .ins) (a .fits))
+      runner-stops (prog s) (t .steps .num) (inputs t) (a .admitted) (ground-fits _ (find (prog s) 0 .params) (class t .con .ins) (a .fits))

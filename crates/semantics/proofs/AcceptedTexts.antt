@@ -13,7 +13,7 @@ use Rattle.semantics.specs.Lists.{All}
 use Rattle.semantics.specs.Tree.{Line, listing}
 use Rattle.semantics.specs.Walk.{wordOf, linesOf}
 use Rattle.semantics.specs.Answer.{inputs, limits, walked, ran, answered, answerOf, list, run}
-use Rattle.semantics.specs.Demand2.{NeverStuck, RunnerCorrect, TraceNeverStuck, TracedLines, InstanceOf}
+use Rattle.semantics.specs.Demand2.{NeverStuck, NeverRebinds, RunnerCorrect, TraceNeverStuck, TracedLines, InstanceOf}
 use Rattle.semantics.specs.Demand3.{Unstopped, ListingCorrect}
 use Rattle.semantics.proofs.Environments.{FitsInputs, ground-fits, class-fits}
 use Rattle.semantics.proofs.Instances.{lines-instances}
@@ -32,18 +32,22 @@ module _ (p j : List ℕ) (s : SProg) (t : SJob) where
   -- "an accepted program never gets stuck"
   pub accepted-never-stuck : (tool : Tool) → reading tool p j ≡ accepted s t → (is : List Value) (o : Value) → InClass (class t) is o → NeverStuck (prog s) is
   accepted-never-stuck tool e is o m = let a = accepted-passed tool p j s t e in
-      never-stuck (prog s) is (a .wellFormed) (class-fits (find (prog s) 0 .params) (class t) is o (a .fits) m)
+      never-stuck (prog s) is (a .admitted) (class-fits (find (prog s) 0 .params) (class t) is o (a .fits) m)
 
   module _ (e : reading runner p j ≡ accepted s t) where
     inputs-fit : FitsInputs (find (prog s) 0 .params) (inputs t)
     inputs-fit = ground-fits _ (find (prog s) 0 .params) (class t .con .ins) (accepted-passed runner p j s t e .fits)
 
     pub ran-never-stuck : NeverStuck (prog s) (inputs t)
-    ran-never-stuck = never-stuck (prog s) (inputs t) (accepted-passed runner p j s t e .wellFormed) inputs-fit
+    ran-never-stuck = never-stuck (prog s) (inputs t) (accepted-passed runner p j s t e .admitted) inputs-fit
+
+    -- "01's rule that a later binding replaces the earlier one goes" (02, request 1)
+    pub ran-never-rebinds : NeverRebinds (prog s) (inputs t)
+    ran-never-rebinds a b σ τ i r = ran-never-stuck .progress a b σ τ i r .bindsOnce
 
     -- "the runner gives the value and step count of the published evaluation rules"
     pub ran-correct : RunnerCorrect (prog s) (t .steps .num) (inputs t) (ran s t)
-    ran-correct = runner-correct (prog s) (t .steps .num) (inputs t) (accepted-passed runner p j s t e .wellFormed) inputs-fit
+    ran-correct = runner-correct (prog s) (t .steps .num) (inputs t) (accepted-passed runner p j s t e .admitted) inputs-fit
 
     pub run-answer : run p j ≡ answered (ran s t)
     unfolding run
@@ -56,14 +60,14 @@ module _ (p j : List ℕ) (s : SProg) (t : SJob) where
 
     -- demand 3
     pub listed-correct : Unstopped (wordOf (walked s t)) → ListingCorrect (prog s) (class t) (t .steps .num) (walked s t)
-    listed-correct h = let a = accepted-passed lister p j s t e in listing-correct (prog s) (class t) (t .steps .num) (a .wellFormed) (a .fits) (limits t) h
+    listed-correct h = let a = accepted-passed lister p j s t e in listing-correct (prog s) (class t) (t .steps .num) (a .admitted) (a .fits) (limits t) h
 
     -- "the listing has exactly the lines of the published tracing rules .., in true-branch-first order; a stopped listing is a beginning of that one"
     pub listed-traced : TracedLines (prog s) (t .steps .num) (class t) (walked s t)
-    listed-traced = let a = accepted-passed lister p j s t e in traced-lines (prog s) (class t) (t .steps .num) (limits t) (a .wellFormed) (a .fits)
+    listed-traced = let a = accepted-passed lister p j s t e in traced-lines (prog s) (class t) (t .steps .num) (limits t) (a .admitted) (a .fits)
 
     pub listed-never-stuck : TraceNeverStuck (prog s) (class t)
-    listed-never-stuck = let a = accepted-passed lister p j s t e in trace-never-stuck (prog s) (class t) (a .wellFormed) (a .fits)
+    listed-never-stuck = let a = accepted-passed lister p j s t e in trace-never-stuck (prog s) (class t) (a .admitted) (a .fits)
 
   -- "the line's inputs and output, which are the job's under the line's bindings", stopped or not
   pub listed-instances : All (λ L. InstanceOf (class t) (L .class)) (linesOf (walked s t))

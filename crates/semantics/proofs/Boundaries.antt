@@ -1,4 +1,4 @@
--- The limits of 01 on both sides, from the bytes of the texts on: configurations of exactly 4,096 and of 4,097 nodes, once for
+-- The limits of 01, "From the state", on both sides, from the bytes of the texts on: configurations of exactly 4,096 and of 4,097 nodes, once for
 -- each part that counts, and lines of exactly 16,384 and of 16,385 nodes.
 use Prim.Native.Nat.{ℕ}
 use Prim.Native.String.{String}
@@ -59,12 +59,12 @@ cases =
     "(job (in 'A 'A) (out ?e1) (neq) (steps 99) (walk 999) (table 99))" whole 1 24 ∷
     case "(define m [e.i e.j e.k] (call f ['A (cons 'I (cons 'I (cons 'I (cons 'I (cons 'I (cons 'I (cons 'I (cons 'I (cons 'I (cons 'I 'O))))))))))]))(define f [e.x e.n] (if (cons? e.n e.h e.t a.p) (call f [(cons e.x e.x) e.t]) (call g [e.x])))(define g [e.x] e.x)"
     "(job (in 'A 'A 'A) (out ?e1) (neq) (steps 99) (walk 999) (table 99))" (stop stop21) 0 24 ∷
-    -- lines of 16,384 nodes
-    case "(define m [a.s e.z] (call f ['A (cons 'I (cons 'I (cons 'I (cons 'I (cons 'I (cons 'I (cons 'I (cons 'I (cons 'I (cons 'I 'O)))))))))) a.s]))(define f [e.x e.n a.s] (if (cons? e.n e.h e.t a.p) (call f [(cons e.x e.x) e.t a.s]) (call g [e.x a.s])))(define g [e.x a.s] (if (eqa? a.s 'S1) e.x (if (eqa? a.s 'S2) e.x (if (eqa? a.s 'S3) e.x (if (eqa? a.s 'S4) e.x (if (eqa? a.s 'S5) e.x (if (eqa? a.s 'S6) e.x (if (eqa? a.s 'S7) e.x (if (cons? e.x e.x e.t a.p) (if (eqa? a.s 'S8) e.x (if (cons? e.x e.x e.t a.p) (if (eqa? a.s 'S9) e.x (if (cons? e.x e.x e.t a.p) (if (eqa? a.s 'S10) e.x (if (cons? e.x e.x e.t a.p) (if (eqa? a.s 'S11) e.x (if (cons? e.x e.x e.t a.p) (if (eqa? a.s 'S12) e.x (if (cons? e.x e.x e.t a.p) (if (eqa? a.s 'S13) e.x (if (cons? e.x e.x e.t a.p) (if (cons? e.x e.x e.t a.p) (if (eqa? a.s 'S14) e.x (if (cons? e.x e.x e.t a.p) (if (eqa? a.s 'S15) e.x (if (eqa? a.s 'S16) e.x 'B)) 'B)) 'B) 'B)) 'B)) 'B)) 'B)) 'B)) 'B)) 'B)))))))))"
-    "(job (in ?a1 'A) (out (cons ?e8 ?e9)) (neq) (steps 99) (walk 999) (table 99))" whole 16 65 ∷
+    -- lines of 16,384 nodes: a tree ends in lines on its way from 3 to 2,047 nodes
+    case "(define m [a.s e.z] (call g3 [(cons 'A 'A) a.s]))(define g3 [e.x a.s] (if (eqa? a.s 'S1) e.x (if (eqa? a.s 'S2) e.x (call g7 [(cons e.x e.x) a.s]))))(define g7 [e.x a.s] (if (eqa? a.s 'S3) e.x (call g31 [(cons (cons e.x e.x) (cons e.x e.x)) a.s])))(define g31 [e.x a.s] (if (eqa? a.s 'S4) e.x (call g63 [(cons e.x e.x) a.s])))(define g63 [e.x a.s] (if (eqa? a.s 'S5) e.x (call g127 [(cons e.x e.x) a.s])))(define g127 [e.x a.s] (if (eqa? a.s 'S6) e.x (call g255 [(cons e.x e.x) a.s])))(define g255 [e.x a.s] (if (eqa? a.s 'S7) e.x (call g511 [(cons e.x e.x) a.s])))(define g511 [e.x a.s] (if (eqa? a.s 'S8) e.x (call g1023 [(cons e.x e.x) a.s])))(define g1023 [e.x a.s] (if (eqa? a.s 'S9) e.x (call g2047 [(cons e.x e.x) a.s])))(define g2047 [e.x a.s] (if (eqa? a.s 'S10) e.x (if (eqa? a.s 'S11) e.x (if (eqa? a.s 'S12) e.x (if (eqa? a.s 'S13) e.x (if (eqa? a.s 'S14) e.x (if (eqa? a.s 'S15) e.x (if (eqa? a.s 'S16) e.x 'B))))))))"
+    "(job (in ?a1 'A) (out (cons ?e8 ?e9)) (neq) (steps 99) (walk 999) (table 99))" whole 16 42 ∷
     -- lines of 16,385 nodes
-    case "(define m [a.s e.z] (call f ['A (cons 'I (cons 'I (cons 'I (cons 'I (cons 'I (cons 'I (cons 'I (cons 'I (cons 'I (cons 'I 'O)))))))))) a.s]))(define f [e.x e.n a.s] (if (cons? e.n e.h e.t a.p) (call f [(cons e.x e.x) e.t a.s]) (call g [e.x a.s])))(define g [e.x a.s] (if (eqa? a.s 'S1) e.x (if (eqa? a.s 'S2) e.x (if (eqa? a.s 'S3) e.x (if (eqa? a.s 'S4) e.x (if (eqa? a.s 'S5) e.x (if (eqa? a.s 'S6) e.x (if (eqa? a.s 'S7) e.x (if (cons? e.x e.x e.t a.p) (if (eqa? a.s 'S8) e.x (if (cons? e.x e.x e.t a.p) (if (eqa? a.s 'S9) e.x (if (cons? e.x e.x e.t a.p) (if (eqa? a.s 'S10) e.x (if (cons? e.x e.x e.t a.p) (if (eqa? a.s 'S11) e.x (if (cons? e.x e.x e.t a.p) (if (eqa? a.s 'S12) e.x (if (cons? e.x e.x e.t a.p) (if (eqa? a.s 'S13) e.x (if (cons? e.x e.x e.t a.p) (if (cons? e.x e.x e.t a.p) (if (cons? e.x e.x e.t a.p) (if (eqa? a.s 'S14) e.x (if (eqa? a.s 'S15) e.x (if (eqa? a.s 'S16) e.x (if (eqa? a.s 'S17) e.x 'B)))) 'B) 'B) 'B)) 'B)) 'B)) 'B)) 'B)) 'B)) 'B)))))))))"
-    "(job (in ?a1 'A) (out (cons ?e8 ?e9)) (neq) (steps 99) (walk 999) (table 99))" (stop stop22) 16 66 ∷
+    case "(define m [a.s e.z] (call g3 [(cons 'A 'A) a.s]))(define g3 [e.x a.s] (if (eqa? a.s 'S1) e.x (if (eqa? a.s 'S2) e.x (if (eqa? a.s 'S3) e.x (if (eqa? a.s 'S4) e.x (call g7 [(cons e.x e.x) a.s]))))))(define g7 [e.x a.s] (call g31 [(cons (cons e.x e.x) (cons e.x e.x)) a.s]))(define g31 [e.x a.s] (if (eqa? a.s 'S5) e.x (call g63 [(cons e.x e.x) a.s])))(define g63 [e.x a.s] (if (eqa? a.s 'S6) e.x (call g127 [(cons e.x e.x) a.s])))(define g127 [e.x a.s] (if (eqa? a.s 'S7) e.x (call g255 [(cons e.x e.x) a.s])))(define g255 [e.x a.s] (if (eqa? a.s 'S8) e.x (call g511 [(cons e.x e.x) a.s])))(define g511 [e.x a.s] (if (eqa? a.s 'S9) e.x (call g1023 [(cons e.x e.x) a.s])))(define g1023 [e.x a.s] (if (eqa? a.s 'S10) e.x (call g2047 [(cons e.x e.x) a.s])))(define g2047 [e.x a.s] (if (eqa? a.s 'S11) e.x (if (eqa? a.s 'S12) e.x (if (eqa? a.s 'S13) e.x (if (eqa? a.s 'S14) e.x (if (eqa? a.s 'S15) e.x (if (eqa? a.s 'S16) e.x (if (eqa? a.s 'S17) e.x 'B))))))))"
+    "(job (in ?a1 'A) (out (cons ?e8 ?e9)) (neq) (steps 99) (walk 999) (table 99))" (stop stop22) 16 43 ∷
     []
 
 abbrev pub First : Type 0

@@ -12,7 +12,7 @@ use borrow.Author.Tests.{ltb-true, ltb-false}
 use Rattle.expressions.specs.Expression.{Value}
 use Rattle.expressions.specs.Class.{IOClass, InClass}
 use Rattle.language.specs.Program.{Prog, find}
-use Rattle.language.specs.WellFormed.{fits, wellFormed}
+use Rattle.language.specs.WellFormed.{fits, admitted}
 use Rattle.semantics.specs.Lists.{All, Any, AllPairs}
 use Rattle.semantics.specs.Figure4.{Outputs, RunsLonger}
 use Rattle.semantics.specs.Evaluate.{evaluate}
@@ -44,7 +44,7 @@ one-line lines apart is o a d =
     pick i l h k l′ h′ false e true f = absurd (pairs-at _ d lines apart i k (ltb-true i k f) l′ is o h h′)
     pick i l h k l′ h′ false e false f = omega (arith, ltb-false k i e, ltb-false i k f)
 
-module _ (p : Prog) (j : IOClass) (n : ℕ) (a : wellFormed p ≡ true) (fit : fits (find p 0 .params) (j .con .ins) ≡ true) where
+module _ (p : Prog) (j : IOClass) (n : ℕ) (a : admitted p ≡ true) (fit : fits (find p 0 .params) (j .con .ins) ≡ true) where
   in-class-fits : (is : List Value) (o : Value) → InClass j is o → FitsInputs (find p 0 .params) is
   in-class-fits is o M = class-fits (find p 0 .params) j is o fit M
 

@@ -3,7 +3,7 @@
 use Prim.Native.Nat.{ℕ}
 use mathlib.Core.Path.{_≡_, refl, ap, subst, sym as inv}
 use mathlib.Core.Bool.{Bool, true, false, cond, not, false≢true}
-use mathlib.Core.List.{List, [], _∷_}
+use mathlib.Core.List.{List, [], _∷_, _++_}
 use lib.Dec.{eqb}
 use borrow.Author.Tests.{eqb-true, eqb-false, ne-eqb, not-true}
 use Rattle.expressions.specs.Expression.{Value, atom, cons, AtomicExp, Exp, atm, evar, pair}
@@ -67,8 +67,13 @@ update-bound {A} x y v bs b = pick (eqb y x) refl
     pick true e = (v, subst (λ (z : ℕ). Binds z v (update y v bs)) (eqb-true y x e) (update-here y v bs))
     pick false e = let w = b e in (w .0, update-there y v (eqb-false y x e) (w .1))
 
+-- σ[x ↦ v] where x is not bound: it is added at the end
+pub update-new : {A : Type 0} (x : ℕ) (v : A) (bs : List (ℕ × A)) → Unbound x bs → update x v bs ≡ bs ++ ((x, v) ∷ [])
+update-new x v [] u = refl
+update-new x v (b ∷ bs) u = rw (ne-eqb (b .0) x (u .0)) (ap (λ (cs : List (ℕ × _)). b ∷ cs) (update-new x v bs (u .1)))
+
 -- names stay distinct
-update-unbound : {A : Type 0} (x y : ℕ) (v : A) (bs : List (ℕ × A)) → (x ≡ y → ⊥) → Unbound y bs → Unbound y (update x v bs)
+pub update-unbound : {A : Type 0} (x y : ℕ) (v : A) (bs : List (ℕ × A)) → (x ≡ y → ⊥) → Unbound y bs → Unbound y (update x v bs)
 update-unbound x y v [] n u = (n, tt)
 update-unbound x y v (b ∷ bs) n u = pick (eqb (b .0) x) (update-unbound x y v bs n (u .1))
   where
@@ -84,7 +89,7 @@ update-distinct x v (b ∷ bs) d = pick (eqb (b .0) x) refl (update-distinct x v
     pick true e h = (subst (λ (z : ℕ). Unbound z bs) (eqb-true (b .0) x e) (d .0), d .1)
     pick false e h = (update-unbound x (b .0) v bs (λ q. eqb-false (b .0) x e (inv q)) (d .0), h)
 
-map-unbound : {A B : Type 0} (f : A → B) (x : ℕ) (bs : List (ℕ × A)) → Unbound x bs → Unbound x (mapValues f bs)
+pub map-unbound : {A B : Type 0} (f : A → B) (x : ℕ) (bs : List (ℕ × A)) → Unbound x bs → Unbound x (mapValues f bs)
 map-unbound f x [] u = tt
 map-unbound f x (b ∷ bs) u = (u .0, map-unbound f x bs (u .1))
 

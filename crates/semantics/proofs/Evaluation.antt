@@ -7,15 +7,15 @@ use mathlib.Core.Option.{Option, none, some, Option·none-ne-some, Option·some-
 use mathlib.Core.Logic.{_↔_}
 use native.Mathlib.Omega.{arith}
 use native.Mathlib.Nat.{not-suc-le-zero, le-of-suc-le-suc}
-use lib.Dec.{eqb, ltb}
-use lib.ListN.{length}
-use borrow.Author.Tests.{eqb-true, eqb-false, eq-eqb, ne-eqb, ltb-true}
+use lib.Dec.{eqb}
+use borrow.Author.Tests.{eqb-true, eqb-false, eq-eqb, ne-eqb}
 use Rattle.expressions.specs.Expression.{Value, atom, cons, AtomicExp, sym, avar, Exp, atm, evar, pair}
 use Rattle.expressions.specs.Substitution.{ground, groundAtomic}
 use Rattle.expressions.proofs.Tests.{and-both}
 use Rattle.language.specs.Program.{eqa, consp, Term, call, conditional, result, Param, pe, pa, Def, Prog, find, atomOf}
 use Rattle.language.specs.Scope.{Scope, inScopeAtomic, inScope, allInScope, isAtomic, atomicInScope}
-use Rattle.language.specs.WellFormed.{fits, wellFormedDefs, wellFormed}
+use Rattle.language.specs.WellFormed.{fits, admitted}
+use Rattle.language.proofs.Formed.{some-main}
 use Rattle.language.proofs.Tests.{both}
 use Rattle.semantics.specs.Environment.{bindParams, names}
 use Rattle.semantics.specs.Figure4.{ValueEnv, AtomOf, ValueOf, ArgumentsOf, Step, equal, unequal, isPair, isAtom, calls, Evaluates, terminal, transition, InitialEnv, Initial, Outputs, RunsLonger}
@@ -109,7 +109,7 @@ arguments-bound ArgumentsOf.done = ParamsBound.done
 arguments-bound (ArgumentsOf.any x ps d ds v τ h k) = ParamsBound.any x ps v τ (arguments-bound k)
 arguments-bound (ArgumentsOf.one x ps d ds z τ h k) = ParamsBound.one x ps z τ (arguments-bound k)
 
-pub scoped-step : {p : Prog} {σ σ′ : ValueEnv} {t t′ : Term} → wellFormed p ≡ true → Step p σ t t′ σ′ → WellScoped p t σ → WellScoped p t′ σ′
+pub scoped-step : {p : Prog} {σ σ′ : ValueEnv} {t t′ : Term} → admitted p ≡ true → Step p σ t t′ σ′ → WellScoped p t σ → WellScoped p t′ σ′
 scoped-step a (equal x y s t z h k) w = scoped-eqa w .2
 scoped-step a (unequal x y s t z v h k n) w = scoped-eqa w .3
 scoped-step a (isPair c h t x s r u v k) w = scoped-pair u v w
@@ -126,7 +126,7 @@ ended p t σ w g m v e =
     let q = Option·some-injective _ _ e in
     (ap (λ (s : ℕ × Value). s .0) (inv q), subst (λ (r : ℕ × Value). Evaluates p (r .1) (r .0) t σ) q (subst (λ (t : Term). Evaluates p w 0 t σ) (inv (g .1)) (terminal (g .0) σ (g .2))))
 
-is-evaluates : {p : Prog} → wellFormed p ≡ true → (n : ℕ) (t : Term) (σ : ValueEnv) → WellScoped p t σ → (m : ℕ) (v : Value) → evalFrom p n (step p t σ) ≡ some (m, v) → (m ≤ n) × Evaluates p v m t σ
+is-evaluates : {p : Prog} → admitted p ≡ true → (n : ℕ) (t : Term) (σ : ValueEnv) → WellScoped p t σ → (m : ℕ) (v : Value) → evalFrom p n (step p t σ) ≡ some (m, v) → (m ≤ n) × Evaluates p v m t σ
 unfolding evalFrom
 is-evaluates {p} a zero t σ w m v e = pick (step p t σ) (step-goes t w) e
   where
@@ -179,11 +179,11 @@ module _ {p : Prog} {is : List Value} where
       let r = Option·some-injective (m, o) (m′, o′) q in
       (ap (λ (s : ℕ × Value). s .0) r, ap (λ (s : ℕ × Value). s .1) r)
 
-module _ (p : Prog) (is : List Value) (a : wellFormed p ≡ true) (f : FitsInputs (find p 0 .params) is) where
+module _ (p : Prog) (is : List Value) (a : admitted p ≡ true) (f : FitsInputs (find p 0 .params) is) where
   pub initial-start : Initial p is (startTerm p) (startEnv p is)
   initial-start = record {
     main = find p 0;
-    defines = defines-find p 0 _ (ltb-true 0 (length p) (and-both (ltb 0 (length p)) (wellFormedDefs p p) a .0));
+    defines = defines-find p 0 _ (some-main p a);
     term = refl;
     env = initial-env (find p 0 .params) is f;
   }

@@ -4,8 +4,8 @@ use mathlib.Core.Path.{_≡_, refl, subst, sym as inv}
 use mathlib.Core.Bool.{Bool, true, false, _||_, not, false≢true, true≢false}
 use mathlib.Core.List.{List, [], _∷_}
 use mathlib.Core.Option.{Option, none, some}
-use borrow.Author.Tests.{eqb-false, eq-eqb, ne-eqb, ltb-true}
-use lib.Dec.{eqb, ltb}
+use borrow.Author.Tests.{eqb-false, eq-eqb, ne-eqb}
+use lib.Dec.{eqb}
 use lib.ListN.{length}
 use Rattle.expressions.specs.Expression.{sym, Exp, atm}
 use Rattle.expressions.specs.Substitution.{apply, applyAtomic}
@@ -18,10 +18,11 @@ use Rattle.expressions.proofs.Predicates.{OfOption}
 use Rattle.language.specs.Program.{Param, pe, pa, Prog, find, atomOf}
 use Rattle.language.specs.Source.{SProg, SJob, prog, class}
 use Rattle.language.specs.Scope.{isAtomic, scopeOf}
-use Rattle.language.specs.WellFormed.{fits, hasParam, distinctParams, wellFormedTerm, wellFormedDefs, wellFormed}
+use Rattle.language.specs.WellFormed.{fits, hasParam, distinctParams, wellFormedTerm, wellFormedDefs, admitted}
 use Rattle.language.specs.JobCheck.{Tool}
 use Rattle.language.specs.Reading.{accepted, reading}
 use Rattle.language.proofs.Tests.{and-three}
+use Rattle.language.proofs.Formed.{some-main, defs-formed}
 use Rattle.language.proofs.Acceptance.{accepted-passed}
 use Rattle.semantics.specs.Environment.{lookup, addE, addA, bindParams, names}
 use Rattle.semantics.specs.Configuration.{ExpEnv, substOfEnv, state, Configuration, startWith, start}
@@ -89,13 +90,12 @@ start-successor p P ds k e f is =
     rw r
 
 -- a program's main has no parameter twice
-pub main-distinct : (p : Prog) → wellFormed p ≡ true → distinctParams (find p 0 .params) ≡ true
+pub main-distinct : (p : Prog) → admitted p ≡ true → distinctParams (find p 0 .params) ≡ true
 main-distinct [] e = refl
 main-distinct (d ∷ p) e =
-    let w = and-both (ltb 0 (length (d ∷ p))) (wellFormedDefs (d ∷ p) (d ∷ p)) e .1 in
-    and-three (distinctParams (d .params)) (wellFormedTerm (d ∷ p) (scopeOf (d .params)) (d .body)) (wellFormedDefs (d ∷ p) p) w .0
+    and-three (distinctParams (d .params)) (wellFormedTerm (d ∷ p) (scopeOf (d .params)) (d .body)) (wellFormedDefs (d ∷ p) p) (defs-formed (d ∷ p) e) .0
 
-pub main-called : (p : Prog) (j : IOClass) (K : Configuration) → wellFormed p ≡ true → fits (find p 0 .params) (j .con .ins) ≡ true → start p j ≡ some K →
+pub main-called : (p : Prog) (j : IOClass) (K : Configuration) → admitted p ≡ true → fits (find p 0 .params) (j .con .ins) ≡ true → start p j ≡ some K →
     successors p K ≡ called (record { cr = K .cr; term = find p 0 .body; fresh = K .fresh })
 main-called p j K wf fit e = subst (OfOption Goes) e (pick (simplify (j .neqs)))
   where
@@ -108,8 +108,8 @@ main-called p j K wf fit e = subst (OfOption Goes) e (pick (simplify (j .neqs)))
 
 module _ (tool : Tool) (p j : List ℕ) (s : SProg) (t : SJob) (e : reading tool p j ≡ accepted s t) where
   pub accepted-main : (K₀ : Configuration) → start (prog s) (class t) ≡ some K₀ → successors (prog s) K₀ ≡ called (record { cr = K₀ .cr; term = find (prog s) 0 .body; fresh = K₀ .fresh })
-  accepted-main K₀ k = let a = accepted-passed tool p j s t e in main-called (prog s) (class t) K₀ (a .wellFormed) (a .fits) k
+  accepted-main K₀ k = let a = accepted-passed tool p j s t e in main-called (prog s) (class t) K₀ (a .admitted) (a .fits) k
 
   -- "the first is main"
   pub accepted-defines : 0 < length (prog s)
-  accepted-defines = ltb-true 0 (length (prog s)) (and-both (ltb 0 (length (prog s))) (wellFormedDefs (prog s) (prog s)) (accepted-passed tool p j s t e .wellFormed) .0)
+  accepted-defines = some-main (prog s) (accepted-passed tool p j s t e .admitted)

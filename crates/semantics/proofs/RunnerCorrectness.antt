@@ -10,7 +10,7 @@ use lib.Dec.{eqb}
 use Rattle.expressions.specs.Expression.{Value, atom, cons}
 use Rattle.expressions.specs.Substitution.{ground, groundAtomic}
 use Rattle.language.specs.Program.{eqa, consp, Term, call, conditional, result, Prog, find, atomOf}
-use Rattle.language.specs.WellFormed.{wellFormed}
+use Rattle.language.specs.WellFormed.{admitted}
 use Rattle.semantics.specs.Figure4.{ValueEnv}
 use Rattle.semantics.specs.Evaluate.{groundOf, stepPair, Next, end, go, step, addStep, evalFrom, evaluate}
 use Rattle.semantics.specs.Runner.{Ran, value, ranOver, notWithin, nextOver, arrive, atResult, runFrom, runner}
@@ -102,7 +102,7 @@ agreed ranOver o m v a e = inr refl
 agreed notWithin o m v a e = absurd (Option·none-ne-some _ (inv a ∙ e))
 
 -- "the runner gives the value and step count of the published evaluation rules"
-pub runner-correct : (p : Prog) (n : ℕ) (is : List Value) → wellFormed p ≡ true → FitsInputs (find p 0 .params) is → RunnerCorrect p n is (runner p n is)
+pub runner-correct : (p : Prog) (n : ℕ) (is : List Value) → admitted p ≡ true → FitsInputs (find p 0 .params) is → RunnerCorrect p n is (runner p n is)
 runner-correct p n is a f = record {
   valued = λ m v e. evaluate-rules p is a f n m v .0 (valued m v (subst (λ (r : Ran). Agrees 0 r (evaluate p n is)) e (runner-agrees p n is)));
   complete = λ m v l x. agreed (runner p n is) (evaluate p n is) m v (runner-agrees p n is) (outputs-evaluate n l x);

@@ -10,7 +10,7 @@ use borrow.Author.Tests.{ltb-true, lt-ltb}
 use Rattle.expressions.specs.Expression.{Value, Exp}
 use Rattle.expressions.specs.Substitution.{ground}
 use Rattle.language.specs.Program.{Term, call, conditional, result, Prog, find}
-use Rattle.language.specs.WellFormed.{wellFormed}
+use Rattle.language.specs.WellFormed.{admitted}
 use Rattle.semantics.specs.Figure4.{ValueEnv, ValueOf, Step, equal, unequal, isPair, isAtom, calls}
 use Rattle.semantics.specs.Evaluate.{groundOf, Next, end, go, step, startTerm, startEnv}
 use Rattle.semantics.specs.Walk.{nodeLimit}
@@ -87,7 +87,7 @@ module _ (p : Prog) (is : List Value) where
   }
 
   -- a run that stops with 21 has such a state
-  ran-over : wellFormed p ≡ true → (n s : ℕ) (t : Term) (σ : ValueEnv) → WellScoped p t σ → runFrom p is n s (arrived t σ) ≡ ranOver → OverFrom n t σ
+  ran-over : admitted p ≡ true → (n s : ℕ) (t : Term) (σ : ValueEnv) → WellScoped p t σ → runFrom p is n s (arrived t σ) ≡ ranOver → OverFrom n t σ
   unfolding runFrom
   ran-over a zero s t σ w e = pick (arrive-over (λ t σ. notWithin) s (nextOver is (arrived t σ)) (arrived t σ) e)
     where
@@ -134,7 +134,7 @@ not-over (value m v) f = inl (m, v, refl)
 not-over ranOver f = absurd (f refl)
 not-over notWithin f = inr refl
 
-pub runner-stops : (p : Prog) (n : ℕ) (is : List Value) → wellFormed p ≡ true → FitsInputs (find p 0 .params) is → RunnerStops p n is (runner p n is)
+pub runner-stops : (p : Prog) (n : ℕ) (is : List Value) → admitted p ≡ true → FitsInputs (find p 0 .params) is → RunnerStops p n is (runner p n is)
 unfolding runner
 runner-stops p n is a f = record { over = (stopped, stops); unstopped = λ h. not-over (runner p n is) (λ e. h (stopped e)) }
   where

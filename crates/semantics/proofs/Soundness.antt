@@ -19,7 +19,7 @@ use Rattle.expressions.proofs.Combination.{simplify-idempotent, contract-simpli
 use Rattle.language.specs.Program.{eqa, consp, Term, call, conditional, result, Prog, find, atomOf}
 use Rattle.language.specs.Source.{SProg, SJob, prog, class}
 use Rattle.language.specs.Scope.{withA, pairScope, inScope}
-use Rattle.language.specs.WellFormed.{fits, wellFormedTerm, wellFormed}
+use Rattle.language.specs.WellFormed.{fits, wellFormedTerm, admitted}
 use Rattle.language.specs.JobCheck.{Tool}
 use Rattle.language.specs.Reading.{accepted, reading}
 use Rattle.language.proofs.Tests.{and-four}
@@ -96,7 +96,7 @@ started-simplified p j c e = subst (OfOption Simplified) e (pick (simplify (j .n
     pick (some qs) q = simplify-idempotent (j .neqs) qs q
 
 -- as Tracing has it of each child
-pub successors-scoped : (p : Prog) → wellFormed p ≡ true → Keeps p (Scoped p)
+pub successors-scoped : (p : Prog) → admitted p ≡ true → Keeps p (Scoped p)
 successors-scoped p wf c w = pick (successors p c) refl
   where
     of : (o : Option Bool) (a : Option Configuration) → child o (successors p c) ≡ a → OfOption (Scoped p) a
@@ -114,7 +114,7 @@ scoped-apart {p} c h t x s u w e =
     let d = and-four (inScope sc c) (not (eqb h t)) (wellFormedTerm p (pairScope h t sc) s) (wellFormedTerm p (withA x sc) u) (w .wellFormed) .1 in
     false≢true (inv (ap (λ (i : ℕ). not (eqb h i)) (inv e) ∙ ap not (eqb-same h)) ∙ d)
 
-module _ (p : Prog) (j : IOClass) (wf : wellFormed p ≡ true) (fit : fits (find p 0 .params) (j .con .ins) ≡ true) (low : firstFresh j ≤ 4093) where
+module _ (p : Prog) (j : IOClass) (wf : admitted p ≡ true) (fit : fits (find p 0 .params) (j .con .ins) ≡ true) (low : firstFresh j ≤ 4093) where
   sound-from : (K : Configuration) → Small K → Simplified K → Numbered (firstFresh j) K → Scoped p K → Sound p K
   sound-from K small simple numbered w = record {
     simple = simple;
@@ -135,4 +135,4 @@ module _ (tool : Tool) (p j : List ℕ) (s : SProg) (t : SJob) (e : reading tool
       (bs : List Bool) (m : ℕ) (y : Node) → Reaches (prog s) Small N (root K₀) bs m y → Sound (prog s) (y .conf)
   accepted-sound K₀ k N small bs m y r =
       let a = accepted-passed tool p j s t e in
-      reaches-sound (prog s) (class t) (a .wellFormed) (a .fits) (omega (arith, accepted-numbers tool p j s t e .fresh)) K₀ k small r
+      reaches-sound (prog s) (class t) (a .admitted) (a .fits) (omega (arith, accepted-numbers tool p j s t e .fresh)) K₀ k small r

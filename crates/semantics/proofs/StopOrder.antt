@@ -15,7 +15,7 @@ use Rattle.expressions.specs.Intersection.{Intersected, common, disjoint, tooLa
 use Rattle.expressions.proofs.Tests.{or-either, or-none}
 use Rattle.expressions.proofs.Unification.{limited-common, limited-disjoint}
 use Rattle.language.specs.Program.{Prog, find}
-use Rattle.language.specs.WellFormed.{fits, wellFormed}
+use Rattle.language.specs.WellFormed.{fits, admitted}
 use Rattle.semantics.specs.Lists.{All, Any}
 use Rattle.semantics.specs.Configuration.{Configuration, start}
 use Rattle.semantics.specs.Trace.{Successors, terminal, called, branches, successors}
@@ -259,7 +259,7 @@ module _ (p : Prog) (n : ℕ) (lim : Limits) where
   outcome j = outcome-from (start p j)
 
 -- the first stop in the order of the walk
-pub resolve-in-order : (p : Prog) (j : IOClass) (n : ℕ) (lim : Limits) → wellFormed p ≡ true → fits (find p 0 .params) (j .con .ins) ≡ true → InOrder p n j lim (resolve p j n lim)
+pub resolve-in-order : (p : Prog) (j : IOClass) (n : ℕ) (lim : Limits) → admitted p ≡ true → fits (find p 0 .params) (j .con .ins) ≡ true → InOrder p n j lim (resolve p j n lim)
 resolve-in-order p j n lim wf fit = record {
   halts = outcome-halts p n lim (visits p n j) (resolve p j n lim) (outcome p n lim j);
   ends = λ u. let h = outcome-ends p n lim (visits p n j) (resolve p j n lim) (outcome p n lim j) u in (h .0, h .1, h .2, cut-visits u);

@@ -10,7 +10,7 @@ use lib.ListN.{length}
 use borrow.Author.Tests.{eq-eqb, ne-eqb}
 use Rattle.expressions.specs.Class.{IOClass, nodesClass}
 use Rattle.language.specs.Program.{Prog, find}
-use Rattle.language.specs.WellFormed.{fits, wellFormed}
+use Rattle.language.specs.WellFormed.{fits, admitted}
 use Rattle.semantics.specs.Lists.{All}
 use Rattle.semantics.specs.Tree.{Line, listing}
 use Rattle.semantics.specs.Walk.{lineLimit, Limits, stop21, stop22, stop23, Walked, resolve, Word, whole, cut, stop, wordOf, linesOf, countOf}
@@ -199,12 +199,12 @@ module _ (p : Prog) (n : ℕ) (j : IOClass) (lim : Limits) where
   in-order-unique w x I J = standing-unique lim (listing p n j .cut) (visits p n j) w x (standing w I) (standing x J)
 
   -- so any walk that stops and ends in order finds what `resolve` finds
-  pub in-order-resolve : wellFormed p ≡ true → fits (find p 0 .params) (j .con .ins) ≡ true → (w : Walked) → InOrder p n j lim w →
+  pub in-order-resolve : admitted p ≡ true → fits (find p 0 .params) (j .con .ins) ≡ true → (w : Walked) → InOrder p n j lim w →
       (let r = resolve p j n lim in (wordOf w ≡ wordOf r) × (linesOf w ≡ linesOf r) × (countOf w ≡ countOf r))
   in-order-resolve wf fit w I = in-order-unique w (resolve p j n lim) I (resolve-in-order p j n lim wf fit)
 
   -- and stops under the conditions of specs/Stops.antt
-  pub in-order-stops : wellFormed p ≡ true → fits (find p 0 .params) (j .con .ins) ≡ true → (w : Walked) → InOrder p n j lim w → Stops p n j lim w
+  pub in-order-stops : admitted p ≡ true → fits (find p 0 .params) (j .con .ins) ≡ true → (w : Walked) → InOrder p n j lim w → Stops p n j lim w
   in-order-stops wf fit w I = let e = in-order-resolve wf fit w I in let S = resolve-stops p j n lim wf fit in record {
     spent = λ h. let r = S .spent (inv (e .0) ∙ h) in (e .2 ∙ r .0, r .1);
     full = λ h. subst (λ (ls : List Line). NoRoom lim ls (listing p n j .lines)) (inv (e .1)) (S .full (inv (e .0) ∙ h));

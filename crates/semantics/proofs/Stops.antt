@@ -16,7 +16,7 @@ use Rattle.expressions.specs.Intersection.{Intersected, common, disjoint, tooLa
 use Rattle.expressions.proofs.Tests.{or-either, or-none}
 use Rattle.expressions.proofs.Unification.{limited-common}
 use Rattle.language.specs.Program.{Prog, find}
-use Rattle.language.specs.WellFormed.{fits, wellFormed}
+use Rattle.language.specs.WellFormed.{fits, admitted}
 use Rattle.semantics.specs.Lists.{All}
 use Rattle.semantics.specs.Configuration.{Configuration, start, nodesState}
 use Rattle.semantics.specs.Figure10.{Transition, decisions, Derivation, here, there, Terminal}
@@ -108,7 +108,7 @@ module _ (p : Prog) (lim : Limits) (n : ℕ) (c : Configuration) where
   end-stopping i u r R T H tooLarge e =
       (H .room, inr (record { d = i .node .conf; m = R .m; trail = R .trail; u = u; derivation = R .derivation; within = omega (arith, R .depth); terminal = T; over = e }))
 
-  module _ (wf : wellFormed p ≡ true) where
+  module _ (wf : admitted p ≡ true) where
     reached-child : (x : Node) (k : ℕ) (o : Option Bool) (d : Configuration) (s : ℕ) (ts : List Bool) → Reached (record { left = suc k; node = x }) →
         child o (successors p (x .conf)) ≡ some d → Reached (record { left = k; node = record { conf = d; steps = s; trail = ts } })
     reached-child x k o d s ts R e = record {
@@ -340,7 +340,7 @@ no-room lim found all N f s = pick (N .noRoom)
     pick (inl e) = omega (arith, f, e, l, length-more found (N .line) (N .rest))
     pick (inr e) = omega (arith, s, e, k, nodes-more found (N .line) (N .rest))
 
-module _ (p : Prog) (j : IOClass) (n : ℕ) (lim : Limits) (wf : wellFormed p ≡ true) (fit : fits (find p 0 .params) (j .con .ins) ≡ true) where
+module _ (p : Prog) (j : IOClass) (n : ℕ) (lim : Limits) (wf : admitted p ≡ true) (fit : fits (find p 0 .params) (j .con .ins) ≡ true) where
   -- where the walk of a job leads; w is its listing
   abbrev Outcome : Listing → Walked → Type 0
   Outcome w (going r) = Room lim (r .lines) × (OverIn p n j → ⊥)

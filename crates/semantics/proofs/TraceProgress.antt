@@ -13,11 +13,12 @@ use Rattle.expressions.specs.Class.{IOClass}
 use Rattle.expressions.specs.Split.{firstFresh}
 use Rattle.expressions.proofs.Simplification.{consistent-satisfiable}
 use Rattle.language.specs.Program.{Term, Prog, find}
-use Rattle.language.specs.WellFormed.{fits, wellFormed}
+use Rattle.language.specs.WellFormed.{fits, admitted}
 use Rattle.semantics.specs.Configuration.{state, Configuration, startWith, start}
 use Rattle.semantics.specs.Figure10.{Transition, Derivation, here, there, Terminal}
 use Rattle.semantics.specs.Trace.{Successors, terminal, called, branches, successors}
 use Rattle.semantics.specs.Demand2.{TraceProceeds, TraceNeverStuck}
+use Rattle.semantics.proofs.Scopes.{scoped-once}
 use Rattle.semantics.proofs.TransitionCorrectness.{Invariant, BranchSound, HasSuccessor, TransitionCorrect, transition-correct}
 use Rattle.semantics.proofs.StartCorrectness.{start-invariant}
 use Rattle.semantics.proofs.Tracing.{child, transition-child, Scoped, child-transition, successors-terminal, child-scoped, start-scoped}
@@ -48,7 +49,7 @@ module _ (p : Prog) where
   correct : (c : Configuration) → Held c → TransitionCorrect p (c .cr) (c .term) (successors p c)
   correct c h = transition-correct p (c .cr) (c .fresh) h (c .term)
 
-  derived : (wellFormed p ≡ true) → (d c : Configuration) (m : ℕ) (bs : List Bool) → Derivation p d c m bs → Held c → Scoped p c → Held d × Scoped p d
+  derived : (admitted p ≡ true) → (d c : Configuration) (m : ℕ) (bs : List Bool) → Derivation p d c m bs → Held c → Scoped p c → Held d × Scoped p d
   derived a d c m bs here h s = (h, s)
   derived a d c m bs (there c′ e o n cs t r) h s =
       let k = transition-child t in derived a d e n cs r (child-held c e o (successors p c) (correct c h) k) (child-scoped p c e o a s k)
@@ -79,7 +80,7 @@ start-held p j c fit e = pick (simplify (j .neqs)) refl e
     pick none q e = absurd (Option·none-ne-some _ e)
     pick (some qs) q e = subst (λ (d : Configuration). Invariant (d .fresh) (d .cr)) (Option·some-injective _ _ e) (start-invariant p zero j fit qs q)
 
-pub trace-never-stuck : (p : Prog) (j : IOClass) → wellFormed p ≡ true → fits (find p 0 .params) (j .con .ins) ≡ true → TraceNeverStuck p j
+pub trace-never-stuck : (p : Prog) (j : IOClass) → admitted p ≡ true → fits (find p 0 .params) (j .con .ins) ≡ true → TraceNeverStuck p j
 trace-never-stuck p j a fit c d m bs e D =
     let r = derived p a d c m bs D (start-held p j c fit e) (start-scoped p j c a fit e) in
-    record { distinctE = r .1 .distinctE; distinctA = r .1 .distinctA; proceeds = proceeds p d (r .0) (r .1) }
+    record { distinctE = r .1 .distinctE; distinctA = r .1 .distinctA; bindsOnce = scoped-once (d .term) (r .1); proceeds = proceeds p d (r .0) (r .1) }

@@ -15,7 +15,7 @@ use Rattle.expressions.proofs.Filling.{applyAtomic-id, apply-id, applyIO-id}
 use Rattle.expressions.proofs.Simplification.{sameAtomic-eq, sameAtomic-same, append-satisfies, simplify-sound, simplify-consistent, consistent-satisfiable}
 use Rattle.language.specs.Program.{eqa, consp, Term, call, conditional, result, Param, pe, pa, Def, Prog, find, atomOf}
 use Rattle.language.specs.Scope.{Scope, inScope, allInScope, isAtomic, atomicInScope}
-use Rattle.language.specs.WellFormed.{fits, wellFormed}
+use Rattle.language.specs.WellFormed.{fits, admitted}
 use Rattle.semantics.specs.Environment.{mapValues, bindParams}
 use Rattle.semantics.specs.Configuration.{ExpEnv, substOfEnv, state, Configuration, withEnv, startWith, start}
 use Rattle.semantics.specs.Figure10.{CAtomOf, CValueOf, CArgumentsOf, MkBind, left, right, Leads, equal, assume, exclude, isPair, isAtomic as isAtomicRule, splitPair, splitAtom, calls, Transition, transition, Terminal}
@@ -240,7 +240,7 @@ module _ (p : Prog) (P : CRPair state) (k : ℕ) where
       pick none = tt
       pick (some qs) = scoped-map (apply (substOf κ)) (applyAtomic (substOf κ)) w
 
-module _ (p : Prog) (wf : wellFormed p ≡ true) (P : CRPair state) where
+module _ (p : Prog) (wf : admitted p ≡ true) (P : CRPair state) where
   keep-consp : (c : Exp) (h t x : ℕ) (s u : Term) (k : ℕ) → WellScoped p (conditional (consp c h t x) s u) (P .con .env) → (v : Exp) → Keeping p (tracePair h t x s u P k v)
   keep-consp c h t x s u k w (atm a) = (tt, scoped-atom a w)
   keep-consp c h t x s u k w (evar n) =
@@ -258,10 +258,10 @@ module _ (p : Prog) (wf : wellFormed p ≡ true) (P : CRPair state) where
       (kept p P k (sp .yes) (u .2), kept p P k (sp .no) (u .3))
   keeping (conditional (consp c h t x) s u) k w = keep-consp c h t x s u k w (apply (substOfEnv (P .con .env)) c)
 
-pub child-scoped : (p : Prog) (c d : Configuration) (o : Option Bool) → wellFormed p ≡ true → Scoped p c → child o (successors p c) ≡ some d → Scoped p d
+pub child-scoped : (p : Prog) (c d : Configuration) (o : Option Bool) → admitted p ≡ true → Scoped p c → child o (successors p c) ≡ some d → Scoped p d
 child-scoped p c d o wf w e = each-child (λ u. Unit {0}) (λ o d. Scoped p d) (successors p c) o d (keeping p wf (c .cr) (c .term) (c .fresh) w) e
 
-pub start-scoped : (p : Prog) (j : IOClass) (c : Configuration) → wellFormed p ≡ true → fits (find p 0 .params) (j .con .ins) ≡ true → start p j ≡ some c → Scoped p c
+pub start-scoped : (p : Prog) (j : IOClass) (c : Configuration) → admitted p ≡ true → fits (find p 0 .params) (j .con .ins) ≡ true → start p j ≡ some c → Scoped p c
 start-scoped p j c wf f e = subst (IfSome (Scoped p)) e (pick (simplify (j .neqs)))
   where
     pick : (r : Option Restriction) → IfSome (Scoped p) (startWith p j r)

@@ -11,7 +11,7 @@ use Rattle.expressions.specs.Expression.{Exp}
 use Rattle.expressions.specs.Class.{IOClass}
 use Rattle.expressions.specs.Intersection.{Intersected, common, disjoint, tooLarge, intersect, noLimit}
 use Rattle.language.specs.Program.{Prog, find}
-use Rattle.language.specs.WellFormed.{fits, wellFormed}
+use Rattle.language.specs.WellFormed.{fits, admitted}
 use Rattle.semantics.specs.Lists.{All, Any, AllPairs}
 use Rattle.semantics.specs.Configuration.{Configuration}
 use Rattle.semantics.specs.Figure10.{Transition, Derivation, here, there, Terminal}
@@ -114,7 +114,7 @@ module _ (p : Prog) where
   abbrev Behind : ℕ → Node → Bool → TrailedLine → Type 0
   Behind n x b y = EndsFrom p (suc n) x y × ((cs : List Bool) × (y .trail ≡ x .trail ++ (b ∷ cs)))
 
-  module _ (wf : wellFormed p ≡ true) where
+  module _ (wf : admitted p ≡ true) where
     branch-sound : (n : ℕ) (x : Node) (b : Bool) (o : Option Configuration) → Scoped p (x .conf) → child (some b) (successors p (x .conf)) ≡ o →
         ((z : Node) → Scoped p (z .conf) → All (EndsFrom p n z) (linesBehind n z)) → All (Behind n x b) (linesOfBranch n x b o)
     branch-sound n x b none w e ih = tt
@@ -230,7 +230,7 @@ module _ (p : Prog) where
         (complete-from n (suc s) (ts ++ (q ∷ [])) l h (le-of-suc-le-suc k) (e ∙ inv (append-assoc ts (q ∷ []) bs)) (omega arith))
 
 -- "exactly the lines of the published tracing rules within the job's steps, in true-branch-first order"
-pub by-the-rules : (p : Prog) (n : ℕ) (c : Configuration) → wellFormed p ≡ true → Scoped p c → ByTheRules p n c (leavesLines (leaves (tree p n (root c))))
+pub by-the-rules : (p : Prog) (n : ℕ) (c : Configuration) → admitted p ≡ true → Scoped p c → ByTheRules p n c (leavesLines (leaves (tree p n (root c))))
 by-the-rules p n c wf w = record {
   trailed = linesBehind p n (root c);
   lines-are = lines-trailed (leaves (tree p n (root c)));
@@ -252,7 +252,7 @@ by-the-rules p n c wf w = record {
     }
 
 -- the listing, and what a walk found of it, stopped or not
-pub traced-lines : (p : Prog) (j : IOClass) (n : ℕ) (lim : Limits) → wellFormed p ≡ true → fits (find p 0 .params) (j .con .ins) ≡ true → TracedLines p n j (resolve p j n lim)
+pub traced-lines : (p : Prog) (j : IOClass) (n : ℕ) (lim : Limits) → admitted p ≡ true → fits (find p 0 .params) (j .con .ins) ≡ true → TracedLines p n j (resolve p j n lim)
 unfolding listing
 traced-lines p j n lim wf f = record {
   byTheRules = λ c e. subst (λ (o : Option Configuration). ByTheRules p n c (leavesLines (leaves (treeOf p n o)))) (inv e) (by-the-rules p n c wf (start-scoped p j c wf f e));

@@ -13,7 +13,7 @@ use Rattle.expressions.specs.Expression.{Exp}
 use Rattle.expressions.specs.Class.{IOClass}
 use Rattle.expressions.proofs.Tests.{or-either}
 use Rattle.language.specs.Program.{Prog, find}
-use Rattle.language.specs.WellFormed.{fits, wellFormed}
+use Rattle.language.specs.WellFormed.{fits, admitted}
 use Rattle.semantics.specs.Lists.{All, Any, AllPairs}
 use Rattle.semantics.specs.Configuration.{Configuration, start}
 use Rattle.semantics.specs.Figure10.{Derivation, here, there}
@@ -264,7 +264,7 @@ module _ (p : Prog) where
             (λ u h. all-map (λ v. BelowBranch x false (v .node)) (InOrderOf u) (λ v g. true-first x u v h g) (behindBranch p k x false b) B) (behindBranch p k x true a) A),
       )
 
-  module _ (n : ℕ) (c : Configuration) (wf : wellFormed p ≡ true) where
+  module _ (n : ℕ) (c : Configuration) (wf : admitted p ≡ true) where
     -- every one is a derivation's
     ends-with : (d : Configuration) (S : Successors) → Scoped p d → successors p d ≡ S → EndsWith d (outputOf S)
     ends-with d (terminal u) s e = successors-terminal p d u s e
@@ -342,7 +342,7 @@ module _ (p : Prog) where
         among-behind k (record { conf = c; steps = s; trail = ts }) (some q) b v (successors p c) (transition-child t)
         (among-from k (suc s) (ts ++ (q ∷ [])) h (le-of-suc-le-suc l) (e ∙ inv (append-assoc ts (q ∷ []) bs)) (omega (arith, f)))
 
-  scoped-derived : {c d : Configuration} {m : ℕ} {bs : List Bool} → wellFormed p ≡ true → Derivation p d c m bs → Scoped p c → Scoped p d
+  scoped-derived : {c d : Configuration} {m : ℕ} {bs : List Bool} → admitted p ≡ true → Derivation p d c m bs → Scoped p c → Scoped p d
   scoped-derived wf here s = s
   scoped-derived wf (there c e o m bs t h) s = scoped-derived wf h (child-scoped p c e o wf s (transition-child t))
 
@@ -357,7 +357,7 @@ module _ (p : Prog) where
   output-is d (some u) s T = ap outputOf (terminal-successors p T)
 
 -- "the walk is depth first, true branch first, and goes N transitions deep"
-pub visits-by-the-rules : (p : Prog) (n : ℕ) (j : IOClass) (c : Configuration) → wellFormed p ≡ true → fits (find p 0 .params) (j .con .ins) ≡ true → start p j ≡ some c →
+pub visits-by-the-rules : (p : Prog) (n : ℕ) (j : IOClass) (c : Configuration) → admitted p ≡ true → fits (find p 0 .params) (j .con .ins) ≡ true → start p j ≡ some c →
     VisitsByTheRules p n c (visits p n j)
 visits-by-the-rules p n j c wf fit e =
     subst (λ (o : Option Configuration). VisitsByTheRules p n c (visitsOf p n o)) (inv e) (record {

@@ -1,4 +1,4 @@
--- Tools that the statements of specs/Stops.antt shut out, whatever else they answer (01: "the tool that refuses all jobs falls, as does
+-- Tools that the statements of specs/Stops.antt shut out, whatever else they answer (01, "From the state": "the tool that refuses all jobs falls, as does
 -- one that cries 22, 23 or cut before its first transition").
 use Prim.Native.Nat.{ℕ, _+_, _≤_, _<_}
 use mathlib.Core.Path.{_≡_, ap, subst, _∙_, sym as inv}

@@ -1,5 +1,5 @@
--- Demand 2, as statements with the rules of figures 4 and 10: an accepted program never gets stuck, the runner gives the
--- value and the steps of the evaluation rules, the listing has exactly the lines of the tracing rules, in order.
+-- Demand 2, as statements with the rules of figures 4 and 10: an accepted program never gets stuck and binds no bound name (02, request 1), the
+-- runner gives the value and the steps of the evaluation rules, the listing has exactly the lines of the tracing rules, in order.
 use Prim.Native.Nat.{ℕ, _≤_}
 use mathlib.Core.Path.{_≡_}
 use mathlib.Core.Bool.{Bool, true, false}
@@ -10,9 +10,9 @@ use Rattle.expressions.specs.Expression.{Value, Exp}
 use Rattle.expressions.specs.Substitution.{Substitution}
 use Rattle.expressions.specs.Class.{applyIO, IOClass}
 use Rattle.expressions.specs.Intersection.{common, intersect, noLimit}
-use Rattle.language.specs.Program.{Term, result, Prog}
+use Rattle.language.specs.Program.{eqa, consp, Term, call, conditional, result, Prog}
 use Rattle.semantics.specs.Lists.{All, Any, AllPairs}
-use Rattle.semantics.specs.Environment.{Env, DistinctNames}
+use Rattle.semantics.specs.Environment.{Env, Unbound, DistinctNames}
 use Rattle.semantics.specs.Figure4.{ValueEnv, ValueOf, Step, Reaches, Initial, Outputs, RunsLonger}
 use Rattle.semantics.specs.Configuration.{Configuration, start}
 use Rattle.semantics.specs.Figure10.{Transition, Derivation, Terminal}
@@ -20,10 +20,19 @@ use Rattle.semantics.specs.Tree.{Node, Line, meetingAt, Listing, listing
 use Rattle.semantics.specs.Walk.{Walked, going, stopped, linesOf}
 use Rattle.semantics.specs.Runner.{Ran, value, ranOver, notWithin}
 
--- a state that is terminal and has a value, or has a step; its names are distinct (001, section 3.2)
+-- "A name .. that a `cons?` binds may no longer be one already in reach on that branch. .. 01's rule that a later binding replaces the
+-- earlier one goes." (02, request 1): where the term is a `cons?`, none of the names that it binds is bound
+abbrev pub BindsOnce : {E A : Type 0} → Term → Env E A → Type 0
+BindsOnce (call f ds) σ = Unit {0}
+BindsOnce (conditional (eqa x y) s t) σ = Unit {0}
+BindsOnce (conditional (consp c h t x) s u) σ = Unbound h (σ .evars) × Unbound t (σ .evars) × Unbound x (σ .avars)
+BindsOnce (result c) σ = Unit {0}
+
+-- a state that is terminal and has a value, or has a step; its names are distinct (001, section 3.2), and what it binds is new
 pub record Proceeds (p : Prog) (t : Term) (σ : ValueEnv) : Type 0 where
   pub distinctE : DistinctNames (σ .evars)
   pub distinctA : DistinctNames (σ .avars)
+  pub bindsOnce : BindsOnce t σ
   pub proceeds : ((c : Exp) × (v : Value) × (t ≡ result c) × ValueOf σ c v) ⊎ ((t′ : Term) × (σ′ : ValueEnv) × Step p σ t t′ σ′)
 
 -- "an accepted program never gets stuck": there is a start, and each state reached from it proceeds
@@ -31,14 +40,19 @@ pub record NeverStuck (p : Prog) (is : List Value) : Type 0 where
   pub starts : (t : Term) × (σ : ValueEnv) × Initial p is t σ
   pub progress : (t t′ : Term) (σ σ′ : ValueEnv) → Initial p is t σ → Reaches p t σ t′ σ′ → Proceeds p t′ σ′
 
--- the same for configurations: terminal with an output, or there is a transition
+-- the same for configurations: terminal with an output, or there is a transition; what it binds is new
 pub record TraceProceeds (p : Prog) (c : Configuration) : Type 0 where
   pub distinctE : DistinctNames (c .cr .con .env .evars)
   pub distinctA : DistinctNames (c .cr .con .env .avars)
+  pub bindsOnce : BindsOnce (c .term) (c .cr .con .env)
   pub proceeds : ((u : Exp) × Terminal c u) ⊎ ((o : Option Bool) × (d : Configuration) × Transition p c o d)
 
 abbrev pub TraceNeverStuck : Prog → IOClass → Type 0
 TraceNeverStuck p j = (c d : Configuration) (m : ℕ) (bs : List Bool) → start p j ≡ some c → Derivation p d c m bs → TraceProceeds p d
+
+-- what `NeverStuck` says of names alone: each state reached from the start binds new names
+abbrev pub NeverRebinds : Prog → List Value → Type 0
+NeverRebinds p is = (t t′ : Term) (σ σ′ : ValueEnv) → Initial p is t σ → Reaches p t σ t′ σ′ → BindsOnce t′ σ′
 
 -- "the runner gives the value and step count of the published evaluation rules"
 pub record RunnerCorrect (p : Prog) (n : ℕ) (is : List Value) (r : Ran) : Type 0 where

@@ -14,7 +14,7 @@ use Rattle.semantics.specs.Configuration.{start}
 use Rattle.semantics.specs.Tree.{Line, Tree, treeOf, leaves, leavesLines, unfinishedNodes, anyOf, edges}
 use Rattle.semantics.specs.Walk.{Walked, going, stopped, Word, whole, cut, stop, wordOf, linesOf, countOf}
 
--- "01's walk ends as whole or cut"
+-- demand 3: "01's walk ends as whole or cut"
 abbrev pub Unstopped : Word → Type 0
 Unstopped whole = Unit {0}
 Unstopped cut = Unit {0}

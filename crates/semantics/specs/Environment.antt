@@ -31,7 +31,7 @@ abbrev pub lookup : {A : Type 0} → A → ℕ → List (ℕ × A) → A
 lookup d x [] = d
 lookup d x (b ∷ bs) = cond (eqb (b .0) x) (b .1) (lookup d x bs)
 
--- σ[x ↦ v]: "A name bound again replaces the earlier one."
+-- σ[x ↦ v] (figure 4). No accepted program binds a bound name (02, request 1), so that this adds at the end: `update-new`.
 abbrev pub update : {A : Type 0} → ℕ → A → List (ℕ × A) → List (ℕ × A)
 update x v [] = (x, v) ∷ []
 update x v (b ∷ bs) = cond (eqb (b .0) x) ((x, v) ∷ bs) (b ∷ update x v bs)

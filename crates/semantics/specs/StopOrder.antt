@@ -1,4 +1,4 @@
--- Which stop comes, and what is found before it: the first in the order of the walk (01: "depth first, true branch first"; "after 21 to
+-- Which stop comes, and what is found before it: the first in the order of the walk (01, "The walk": "depth first, true branch first"; "after 21 to
 -- 23 the lines found before"). specs/Stops.antt says when a stop may come at all; here a walk's word, lines and count are determined.
 use Prim.Native.Nat.{ℕ, zero, suc, _+_, _≤_, _<_}
 use mathlib.Core.Path.{_≡_}

@@ -15,7 +15,7 @@ pub struct Fresh {
     pub next: Counter,
 }
 
-// Spent: a variable of the next number would have no code. No walk of 01 comes near it.
+// Spent: a variable of the next number would have no code. No walk of at most 1,000 transitions (01, "The walk") comes near it.
 pub enum Handed {
     Numbers(Fresh),
     Spent,

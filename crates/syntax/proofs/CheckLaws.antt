@@ -98,11 +98,11 @@ module _ (tok : ℕ → Token) (n : ℕ) where
   exp-leaf (suc room) sc i b = rw b
 
   pair-at : (again : ℕ → Walked) (i j k : ℕ) → i + 2 ≤ n → k + 1 ≤ n → again (i + 2) .past ≡ j → again j .past ≡ k →
-      pairAt keys kinds nums ats n again i ≡ walked (k + 1) Fine (first (again (i + 2) .uses) (again j .uses))
+      pairAt keys kinds nums ats n again i ≡ walked (k + 1) Fine Fine (first (again (i + 2) .uses) (again j .uses))
   pair-at again i j k a b p q = rw (ahead-in n 2 i a, p, q, ahead-in n 1 k b)
 
   pub exp-opened : (room : ℕ) (sc : Names) (i j k : ℕ) → WordAt tok n "(" i → WordAt tok n "cons" (i + 1) → WordAt tok n ")" k → expOf room sc (i + 2) .past ≡ j → expOf room sc j .past ≡ k →
-      expOf (suc room) sc i ≡ walked (k + 1) Fine (first (expOf room sc (i + 2) .uses) (expOf room sc j .uses))
+      expOf (suc room) sc i ≡ walked (k + 1) Fine Fine (first (expOf room sc (i + 2) .uses) (expOf room sc j .uses))
   unfolding expAt
   exp-opened room sc i j k o w e p q =
       let a = w .below in let b = e .below in

@@ -53,7 +53,7 @@ module _ (tok mtok : ℕ → Token) (n m : ℕ) (tool : Tool) where
   datum-leaf (suc room) i b = rw b
 
   datum-opened : (room i j k : ℕ) → WordAt tok n "(" i → WordAt tok n "cons" (i + 1) → WordAt tok n ")" k → datumOf room (i + 2) .past ≡ j → datumOf room j .past ≡ k →
-      datumOf (suc room) i ≡ walked (k + 1) Fine (first (datumOf room (i + 2) .uses) (datumOf room j .uses))
+      datumOf (suc room) i ≡ walked (k + 1) Fine Fine (first (datumOf room (i + 2) .uses) (datumOf room j .uses))
   unfolding datumAt
   datum-opened room i j k o w e p q =
       let a = w .below in let b = e .below in
@@ -296,7 +296,7 @@ module _ (tok mtok : ℕ → Token) (n m : ℕ) (tool : Tool) (num val : ℕ →
     sides-bounds (at.SidesAt.moreAt b o x y z qs) = let w = sides-bounds qs in let x0 = exp-least x in let y0 = exp-least y in let w0 = w .0 in (omega arith, w .1)
 
     sides-at : {i : ℕ} {qs : List (SExp × SExp)} {k : ℕ} (f : ℕ) (v : Verdict) → SidesAt tok n i qs k → k - i < f →
-        sidesAt (keys tok n) (kinds tok n) num (ats tok n) n (isRunner tool) f (markedTo end) v i ≡ walked k Fine (first v (coded (sidesVerdict cs qs)))
+        sidesAt (keys tok n) (kinds tok n) num (ats tok n) n (isRunner tool) f (markedTo end) v i ≡ walked k Fine Fine (first v (coded (sidesVerdict cs qs)))
     unfolding sidesAt check.twoSides
     sides-at zero v x l = let z : ⊥ = omega arith in absurd z
     sides-at {i} (suc f) v (at.SidesAt.noneAt x) l = rw (x .key, first-fine)

@@ -15,10 +15,10 @@ use Rattle.language.specs.Bytes as bytes
 use Rattle.language.specs.Tokens.{ename, aname, Token}
 use Rattle.language.specs.Reader.{is, isA}
 use Rattle.language.specs.Program.{Param, pe, pa, sameParam}
-use Rattle.language.specs.Scope.{isIn, scopeOf}
+use Rattle.language.specs.Scope.{Scope, isIn, scopeOf}
 use Rattle.language.specs.WellFormed.{hasParam}
-use Rattle.language.specs.Source.{SParam, SDef, SProg, params, placeOf, functions, progOf, prog, defs, SCondition, STerm}
-use Rattle.language.specs.ProgramCheck.{termTwice, defsTwice, termVerdict, defsVerdict, programVerdict}
+use Rattle.language.specs.Source.{SParam, SDef, SProg, params, placeOf, functions, progOf, defs, SCondition, STerm}
+use Rattle.language.specs.ProgramCheck.{termTwice, defsTwice, termRebound, defsRebound, termVerdict, defsVerdict, programVerdict}
 use Rattle.language.specs.ProgramCheck as meaning
 use Rattle.syntax.specs.twins.Standing.{WordAt, NameAt, ConditionAt, eqaAt, conspAt, TermAt, callAt, ifAt, resultAt, ParamsAt, DefAt, defineAt, DefsAt, HeadsAt, DefsFrom, ProgramAt}
 use Rattle.syntax.specs.twins.Standing as at
@@ -26,6 +26,8 @@ use Rattle.checker.specs.declared.check.Verdict.{Verdict}
 use Rattle.checker.specs.declared.check.Verdict.the-variants.{Fine, Fault}
 use Rattle.checker.specs.declared.check.Names.{Names}
 use Rattle.checker.specs.declared.check.Defs.{Defs}
+use Rattle.checker.specs.declared.check.Bodies.{Bodies}
+use Rattle.checker.specs.declared.check.Walked.{Walked}
 use Rattle.checker.specs.twins.CheckAt as check
 use Rattle.checker.specs.twins.CheckAt.{first, judge, ahead, noNames, push, paramsTwice, defsAt, bodiesAt, programAt}
 use Rattle.syntax.proofs.CheckLaws.{coded, coded-first, coded-judge, first-fine, first-assoc, ahead-in, is-other, keys, kinds, nums, ats, exp-least, exp-most, exps-bounds}
@@ -237,10 +239,10 @@ module _ (tok : ℕ → Token) (n : ℕ) where
       (first-assoc (a .names) (coded v) (coded r) ∙ ap (first (a .names)) (inv (coded-first v r) ∙
       ap coded (or-else-assoc u (meaning.paramsTwice [] (d .params) orElse termTwice (d .body)) r ∙ ap (λ q. u orElse q) (or-else-assoc (meaning.paramsTwice [] (d .params)) (termTwice (d .body)) r)))) h)
 
-  -- 7, 8, 9 in the bodies
+  -- 13 and 7, 8, 9 in the bodies
   module _ {heads : List ℕ} {ds : List SDef} (hs : HeadsAt tok n heads 0 ds) where
-    abbrev usesOf : Names → ℕ → Verdict
-    usesOf sc i = check.termAt (keys tok n) (kinds tok n) (nums tok n) (ats tok n) n heads (length ds) 63 sc i .uses
+    abbrev termOf : Names → ℕ → Walked
+    termOf sc i = check.termAt (keys tok n) (kinds tok n) (nums tok n) (ats tok n) n heads (length ds) 63 sc i
 
     abbrev paramsOf : ℕ → Names
     paramsOf p = check.paramsAt (keys tok n) n 16 noNames p
@@ -251,23 +253,45 @@ module _ (tok : ℕ → Token) (n : ℕ) where
     abbrev meant : List SDef → bytes.Verdict
     meant es = defsVerdict (progOf (functions ds) ds) (functions ds) es
 
+    abbrev bodyOf : ℕ → Walked
+    bodyOf h = check.bodyAt (keys tok n) (kinds tok n) (nums tok n) (ats tok n) n heads (length ds) h
+
+    abbrev bodiesOf : ℕ → ℕ → Verdict → Verdict → Bodies
+    bodiesOf left j v w = bodiesAt (keys tok n) (kinds tok n) (nums tok n) (ats tok n) n heads (length ds) left j v w
+
+    abbrev scope : SDef → Scope
+    scope d = scopeOf (params (d .params))
+
+    abbrev meantBy : SDef → bytes.Verdict
+    meantBy d = termVerdict (progOf (functions ds) ds) (functions ds) (scope d) (d .body)
+
     body-at : {i k : ℕ} {d : SDef} → DefAt tok n i d k →
-        check.bodyAt (keys tok n) (kinds tok n) (nums tok n) (ats tok n) n heads (length ds) (i + 2) ≡ coded (termVerdict (progOf (functions ds) ds) (functions ds) (scopeOf (params (d .params))) (d .body))
+        (bodyOf (i + 2) .rebound ≡ coded (termRebound (scope d) (d .body))) × (bodyOf (i + 2) .uses ≡ coded (meantBy d))
     body-at (defineAt {i = i} {j = j} {xs = xs} o w f q p m s c) =
         let q0 = q .below in let j0 = params-most p in
         let a : ahead n 2 (i + 2) ≡ i + 4 = ahead-in n 2 (i + 2) (omega arith) ∙ add-assoc i 2 2 in
-        ap (λ p. usesOf (paramsOf p) (ahead n 1 (endOf p))) a ∙
-        ap (λ e. usesOf (paramsOf (i + 4)) (ahead n 1 e)) (params-end tok n 16 p m) ∙
-        ap (λ b. usesOf (paramsOf (i + 4)) b) (ahead-in n 1 j (omega arith)) ∙
-        ap (λ w. w .uses) (term-at tok n hs (paramsOf (i + 4)) (scopeOf (params xs)) (params-wide tok n 16 noNames (i + 4) 126 (wide-less noNames 144 (16 + 126) (omega arith) no-names-wide))
-        (params-reach tok n 16 p m (omega arith)) s)
+        let e =
+        ap (λ p. termOf (paramsOf p) (ahead n 1 (endOf p))) a ∙
+        ap (λ e. termOf (paramsOf (i + 4)) (ahead n 1 e)) (params-end tok n 16 p m) ∙
+        ap (λ b. termOf (paramsOf (i + 4)) b) (ahead-in n 1 j (omega arith)) ∙
+        term-at tok n hs (paramsOf (i + 4)) (scopeOf (params xs)) (params-wide tok n 16 noNames (i + 4) 126 (wide-less noNames 144 (16 + 126) (omega arith) no-names-wide))
+        (params-reach tok n 16 p m (omega arith)) s in
+        (ap (λ w. w .rebound) e, ap (λ w. w .uses) e)
 
-    bodies-at : {j : ℕ} {es : List SDef} → HeadsAt tok n heads j es →
-        bodiesAt (keys tok n) (kinds tok n) (nums tok n) (ats tok n) n heads (length ds) (length es) j ≡ coded (meant es)
+    bodies-end : (j : ℕ) (v w : Verdict) → bodiesOf 0 j v w ≡ record { rebound = v; uses = w }
     unfolding bodiesAt
-    bodies-at at.HeadsAt.noneAt = refl
-    bodies-at (at.HeadsAt.moreAt {d = d} {ds = es} x e rest) =
-        rw (e, body-at x, bodies-at rest) (inv (coded-first (termVerdict (progOf (functions ds) ds) (functions ds) (scopeOf (params (d .params))) (d .body)) (meant es)))
+    bodies-end j v w = refl
+
+    bodies-step : (m j : ℕ) (v w : Verdict) → bodiesOf (suc m) j v w ≡ bodiesOf m (j + 1) (first v (bodyOf (getD heads j 0) .rebound)) (first w (bodyOf (getD heads j 0) .uses))
+    unfolding bodiesAt
+    bodies-step m j v w = refl
+
+    bodies-at : {j : ℕ} {es : List SDef} (v w : Verdict) → HeadsAt tok n heads j es →
+        bodiesOf (length es) j v w ≡ record { rebound = first v (coded (defsRebound es)); uses = first w (coded (meant es)) }
+    bodies-at v w at.HeadsAt.noneAt = rw (bodies-end _ v w, first-fine v, first-fine w)
+    bodies-at {j} v w (at.HeadsAt.moreAt {d = d} {ds = es} x e rest) =
+        let b = body-at x in
+        rw (bodies-step (length es) j v w, e, b .0, b .1, bodies-at _ _ rest, first-assoc v, first-assoc w, coded-first (termRebound (scope d) (d .body)), coded-first (meantBy d))
 
 -- the table that the check by position makes of a program: its definitions, and 6
 pub program-table : (tok : ℕ → Token) (n : ℕ) (s : SProg) → ProgramAt tok n s → All tok n (defsOf tok n 64 check.noDefs) (defs s) (coded (defsTwice [] (defs s)))
@@ -287,5 +311,10 @@ pub program-checked : (tok : ℕ → Token) (n : ℕ) (s : SProg) → ProgramAt 
 unfolding programAt programVerdict
 program-checked tok n s x =
     let a = program-table tok n s x in
-    rw (a .names, a .count) (ap (first (coded (defsTwice [] (defs s)))) (bodies-at tok n (a .heads) (a .heads)) ∙
-    inv (coded-first (defsTwice [] (defs s)) (defsVerdict (prog s) (functions (defs s)) (defs s))))
+    rw (
+      a .names,
+      a .count,
+      bodies-at tok n (a .heads) Fine Fine (a .heads),
+      coded-first (defsTwice [] (defs s)),
+      coded-first (defsRebound (defs s)),
+    )

@@ -1,4 +1,4 @@
--- The check by position on a t: it goes past it, and finds of 6 and of 7, 8, 9 what the check of what was read finds.
+-- The check by position on a t: it goes past it, and finds of 6, of 13 and of 7, 8, 9 what the check of what was read finds.
 use Prim.Native.Nat.{ℕ, zero, suc, _+_, _-_, _≤_, _<_}
 use mathlib.Core.Path.{_≡_, refl, ap, ap₂, subst, _∙_, sym as inv}
 use mathlib.Core.Bool.{Bool, true, false, cond, _&&_, _||_, not, false≢true}
@@ -16,9 +16,9 @@ use Rattle.language.specs.Bytes as bytes
 use Rattle.language.specs.Tokens.{ename, aname, plain, tag, ofProgram, Token}
 use Rattle.language.specs.Reader.{is, isA}
 use Rattle.language.specs.Program.{Param, Prog, Def, find}
-use Rattle.language.specs.Scope.{Scope, withE, withA, pairScope, scopeOf}
-use Rattle.language.specs.Source.{SExp, SCondition, eqaS, conspS, STerm, callS, conditionalS, resultS, SParam, SDef, params, placeOf, functions, progOf}
-use Rattle.language.specs.ProgramCheck.{reachE, reachEa, reachArgs, conditionTwice, termTwice, callVerdict, termVerdict}
+use Rattle.language.specs.Scope.{Scope, isIn, withE, withA, pairScope, scopeOf}
+use Rattle.language.specs.Source.{Stand, SExp, SCondition, eqaS, conspS, STerm, callS, conditionalS, resultS, SParam, SDef, params, placeOf, functions, progOf}
+use Rattle.language.specs.ProgramCheck.{reachE, reachEa, reachArgs, conditionTwice, termTwice, newE, newA, termRebound, callVerdict, termVerdict}
 use Rattle.syntax.specs.twins.Standing.{WordAt, NameAt, ExpAt, symbolAt, consAt, ExpsAt, ConditionAt, TermAt, callAt, ifAt, resultAt, ParamsAt, DefAt, defineAt, HeadsAt}
 use Rattle.syntax.specs.twins.Standing as at
 use Rattle.checker.specs.declared.check.Verdict.{Verdict}
@@ -27,7 +27,7 @@ use Rattle.checker.specs.declared.check.Walked.{Walked}
 use Rattle.checker.specs.declared.check.Names.{Names}
 use Rattle.checker.specs.twins.CheckAt as check
 use Rattle.checker.specs.twins.CheckAt.{first, judge, ahead, walked, push, expAt, placeAt, termAt}
-use Rattle.syntax.proofs.CheckLaws.{coded, coded-first, coded-judge, ahead-in, is-other, keys, kinds, nums, ats, Reach, argsFit, argsUses, exp-least, exp-most, exp-leaf, exp-opened, exp-past, exp-uses, ea-uses, exps-bounds, args-at}
+use Rattle.syntax.proofs.CheckLaws.{coded, coded-first, coded-judge, first-assoc, ahead-in, is-other, keys, kinds, nums, ats, Reach, argsFit, argsUses, exp-least, exp-most, exp-leaf, exp-opened, exp-past, exp-uses, ea-uses, exps-bounds, args-at}
 use Rattle.syntax.proofs.NameLaws.{Wide, wide-less, push-wide, push-e, push-a, fit-at, uses-at}
 
 pub length-params : (xs : List SParam) → length (params xs) ≡ length xs
@@ -43,8 +43,8 @@ call-end : (t : Bool) (o : ℕ) (u w : bytes.Verdict) → (t ≡ true → u ≡ 
 call-end true o u w h = ap coded (h refl)
 call-end false o u w h = refl
 
-same-walked : (w : Walked) (k : ℕ) (v u : Verdict) → w .past ≡ k → w .names ≡ v → w .uses ≡ u → w ≡ walked k v u
-same-walked w k v u p q r = rw (← p, ← q, ← r)
+same-walked : (w : Walked) (k : ℕ) (v b u : Verdict) → w .past ≡ k → w .names ≡ v → w .rebound ≡ b → w .uses ≡ u → w ≡ walked k v b u
+same-walked w k v b u p q t r = rw (← p, ← q, ← t, ← r)
 
 place-step : (b : Bool) (j m : ℕ) → cond b j (j + 1 + m) ≡ j + cond b 0 (suc m)
 place-step true j m = omega arith
@@ -118,6 +118,12 @@ module _ (tok : ℕ → Token) (n : ℕ) where
     abbrev formOf : ℕ → Names → ℕ → Walked
     formOf room sc i = check.formAt (keys tok n) (kinds tok n) (nums tok n) (ats tok n) n heads (length ds) (λ sc k. termOf room sc k) room sc i
 
+    abbrev newOf : Names → ℕ → Verdict
+    newOf sc i = check.newAt (keys tok n) (kinds tok n) (nums tok n) (ats tok n) n sc i
+
+    abbrev stand : ℕ → Stand
+    stand i = record { at = tok i .at; num = tok i .num }
+
     term-leaf : (room : ℕ) (sc : Names) (i : ℕ) → is "(" (tok i) ≡ false → termOf room sc i ≡ leafOf sc i
     unfolding termAt
     term-leaf zero sc i b = refl
@@ -137,20 +143,22 @@ module _ (tok : ℕ → Token) (n : ℕ) where
         let y = o .below in
         term-form room sc i (o .key) ∙ rw (ahead-in n 1 i (omega arith), is-other "cons" "call" (tok (i + 1)) (w .key), is-other "cons" "if" (tok (i + 1)) (w .key), o .key)
 
-    exp-names : {room i : ℕ} {c : SExp} {k : ℕ} (sc : Names) → ExpAt tok n ofProgram room i c k → expOf room sc i .names ≡ Fine
-    exp-names {room} {i} sc (symbolAt b x) = ap (λ w. w .names) (exp-leaf tok n room sc i b)
-    exp-names {room} {i} sc (at.ExpAt.eAt b x) = ap (λ w. w .names) (exp-leaf tok n room sc i b)
-    exp-names {room} {i} sc (at.ExpAt.aAt b x) = ap (λ w. w .names) (exp-leaf tok n room sc i b)
-    exp-names {room = suc room} {i} sc (consAt o w c d e) = ap (λ w. w .names) (exp-opened tok n room sc i _ _ o w e (exp-past tok n sc c) (exp-past tok n sc d))
+    -- an e binds nothing
+    exp-binds : {room i : ℕ} {c : SExp} {k : ℕ} (sc : Names) → ExpAt tok n ofProgram room i c k → (expOf room sc i .names ≡ Fine) × (expOf room sc i .rebound ≡ Fine)
+    exp-binds {room} {i} sc (symbolAt b x) = let e = exp-leaf tok n room sc i b in (ap (λ w. w .names) e, ap (λ w. w .rebound) e)
+    exp-binds {room} {i} sc (at.ExpAt.eAt b x) = let e = exp-leaf tok n room sc i b in (ap (λ w. w .names) e, ap (λ w. w .rebound) e)
+    exp-binds {room} {i} sc (at.ExpAt.aAt b x) = let e = exp-leaf tok n room sc i b in (ap (λ w. w .names) e, ap (λ w. w .rebound) e)
+    exp-binds {room = suc room} {i} sc (consAt o w c d f) =
+        let e = exp-opened tok n room sc i _ _ o w f (exp-past tok n sc c) (exp-past tok n sc d) in (ap (λ w. w .names) e, ap (λ w. w .rebound) e)
 
     abbrev verdict : Scope → STerm → bytes.Verdict
     verdict s t = termVerdict prog fs s t
 
-    result-at : {room i : ℕ} {c : SExp} {k : ℕ} (sc : Names) (s : Scope) → Reach tok n sc s → ExpAt tok n ofProgram room i c k → termOf room sc i ≡ walked k Fine (coded (reachE s c))
-    result-at sc s r x = term-exp sc x ∙ same-walked _ _ _ _ (exp-past tok n sc x) (exp-names sc x) (exp-uses tok n sc s r x)
+    result-at : {room i : ℕ} {c : SExp} {k : ℕ} (sc : Names) (s : Scope) → Reach tok n sc s → ExpAt tok n ofProgram room i c k → termOf room sc i ≡ walked k Fine Fine (coded (reachE s c))
+    result-at sc s r x = let e = exp-binds sc x in term-exp sc x ∙ same-walked _ _ _ _ _ (exp-past tok n sc x) (e .0) (e .1) (exp-uses tok n sc s r x)
 
     call-at : {room i k : ℕ} {cs : List SExp} (sc : Names) (s : Scope) → Reach tok n sc s → WordAt tok n "(" i → WordAt tok n "call" (i + 1) → ExpsAt tok n ofProgram "]" room (i + 4) cs k → WordAt tok n ")" (k + 1) →
-        termOf (suc room) sc i ≡ walked (k + 2) Fine (coded (verdict s (callS (record { at = tok (i + 2) .at; num = tok (i + 2) .num }) cs)))
+        termOf (suc room) sc i ≡ walked (k + 2) Fine Fine (coded (verdict s (callS (stand (i + 2)) cs)))
     call-at {room} {i} {k} {cs} sc s r o w x c =
         let a = w .below in let d = exps-bounds tok n x in let d0 = d .0 in let d1 = d .1 in let c0 = c .below in
         let z : 0 + placeOf (tok (i + 2) .num) fs ≡ placeOf (tok (i + 2) .num) fs = omega arith in
@@ -166,13 +174,16 @@ module _ (tok : ℕ → Token) (n : ℕ) where
           args-at tok n n sc s (ahead n 2 (getD heads (placeOf (tok (i + 2) .num) fs) 0)) true Fine r x f,
           ahead-in n 2 k (omega arith),
         )
-        (ap (walked (k + 2) Fine) (call-uses (placeOf (tok (i + 2) .num) fs) (tok (i + 2) .at) s cs))
+        (ap (walked (k + 2) Fine Fine) (call-uses (placeOf (tok (i + 2) .num) fs) (tok (i + 2) .at) s cs))
+
+    -- what a t that ends before k comes to
+    abbrev found : ℕ → Scope → STerm → Walked
+    found k s t = walked k (coded (termTwice t)) (coded (termRebound s t)) (coded (verdict s t))
 
     eqa-at : {room i j m k l : ℕ} {c d : SExp} (t u : STerm) (sc : Names) (s : Scope) → Reach tok n sc s → WordAt tok n "(" i → WordAt tok n "if" (i + 1) → WordAt tok n "eqa?" (i + 3) →
         ExpAt tok n ofProgram room (i + 4) c j → ExpAt tok n ofProgram room j d m → WordAt tok n ")" m → WordAt tok n ")" l →
-        termOf room sc (m + 1) ≡ walked k (coded (termTwice t)) (coded (verdict s t)) → termOf room sc k ≡ walked l (coded (termTwice u)) (coded (verdict s u)) →
-        termOf (suc room) sc i ≡ walked (l + 1) (coded (termTwice (conditionalS (eqaS c d) t u))) (coded (verdict s (conditionalS (eqaS c d) t u)))
-    unfolding check.eaAt
+        termOf room sc (m + 1) ≡ found k s t → termOf room sc k ≡ found l s u → termOf (suc room) sc i ≡ found (l + 1) s (conditionalS (eqaS c d) t u)
+    unfolding check.eaAt check.branched
     eqa-at {room} {i} {j} {m} {k} {l} {c} {d} t u sc s r o w q x y e f g h =
         let a = w .below in let b = q .below in let e0 = e .below in let f0 = f .below in let x0 = exp-most x in let x1 = exp-least x in let y0 = exp-least y in
         term-form room sc i (o .key) ∙
@@ -192,20 +203,33 @@ module _ (tok : ℕ → Token) (n : ℕ) where
           h,
           ahead-in n 1 l (omega arith),
           coded-first (termTwice t),
+          coded-first (termRebound s t),
           coded-first (reachEa s c),
           coded-first (reachEa s d),
           coded-first (verdict s t),
+          first-assoc (coded (reachEa s c)),
         )
 
+    -- 13 at a name that a `cons?` binds
+    new-e : (sc : Names) (s : Scope) (j : ℕ) → Reach tok n sc s → isA ename (tok j) ≡ true → newOf sc j ≡ coded (newE s (stand j))
+    new-e sc s j r e = ap (λ b. judge (not b) 13 (tok j .at)) (r .evars j e) ∙ inv (coded-judge (not (isIn (tok j .num) (s .evars))) 13 (tok j .at))
+
+    new-a : (sc : Names) (s : Scope) (j : ℕ) → Reach tok n sc s → isA aname (tok j) ≡ true → newOf sc j ≡ coded (newA s (stand j))
+    new-a sc s j r e = ap (λ b. judge (not b) 13 (tok j .at)) (r .avars j e) ∙ inv (coded-judge (not (isIn (tok j .num) (s .avars))) 13 (tok j .at))
+
     consp-at : {room i j k l : ℕ} {c : SExp} (t u : STerm) (sc : Names) (s : Scope) → Reach tok n sc s → WordAt tok n "(" i → WordAt tok n "if" (i + 1) → WordAt tok n "cons?" (i + 3) →
-        ExpAt tok n ofProgram room (i + 4) c j → WordAt tok n ")" (j + 3) → WordAt tok n ")" l →
-        termOf room (push (push sc j) (j + 1)) (j + 4) ≡ walked k (coded (termTwice t)) (coded (verdict (pairScope (tok j .num) (tok (j + 1) .num) s) t)) →
-        termOf room (push sc (j + 2)) k ≡ walked l (coded (termTwice u)) (coded (verdict (withA (tok (j + 2) .num) s) u)) →
-        termOf (suc room) sc i ≡ walked (l + 1)
-        (coded (unless (not (eqb (tok j .num) (tok (j + 1) .num))) 6 (tok (j + 1) .at) orElse termTwice t orElse termTwice u))
-        (coded (reachE s c orElse verdict (pairScope (tok j .num) (tok (j + 1) .num) s) t orElse verdict (withA (tok (j + 2) .num) s) u))
-    consp-at {room} {i} {j} {k} {l} {c} t u sc s r o w q x e f g h =
+        ExpAt tok n ofProgram room (i + 4) c j → isA ename (tok j) ≡ true → isA ename (tok (j + 1)) ≡ true → isA aname (tok (j + 2)) ≡ true → WordAt tok n ")" (j + 3) → WordAt tok n ")" l →
+        termOf room (push (push sc j) (j + 1)) (j + 4) ≡ found k (pairScope (tok j .num) (tok (j + 1) .num) s) t →
+        termOf room (push sc (j + 2)) k ≡ found l (withA (tok (j + 2) .num) s) u →
+        termOf (suc room) sc i ≡ found (l + 1) s (conditionalS (conspS c (stand j) (stand (j + 1)) (stand (j + 2))) t u)
+    unfolding check.bindingAt check.branched
+    consp-at {room} {i} {j} {k} {l} {c} t u sc s r o w q x y1 y2 y3 e f g h =
         let a = w .below in let b = q .below in let e0 = e .below in let f0 = f .below in
+        let s1 = pairScope (tok j .num) (tok (j + 1) .num) s in
+        let s2 = withA (tok (j + 2) .num) s in
+        let nh = newE s (stand j) in let nt = newE s (stand (j + 1)) in let nx = newA s (stand (j + 2)) in
+        let p : first (first (coded nh) (first (coded nt) (coded nx))) (first (coded (termRebound s1 t)) (coded (termRebound s2 u))) ≡ coded (nh orElse nt orElse nx orElse termRebound s1 t orElse termRebound s2 u) =
+        rw (first-assoc (coded nh), first-assoc (coded nt), coded-first nh, coded-first nt, coded-first nx, coded-first (termRebound s1 t)) in
         term-form room sc i (o .key) ∙
         rw (
           ahead-in n 1 i (omega arith),
@@ -219,9 +243,13 @@ module _ (tok : ℕ → Token) (n : ℕ) where
           ahead-in n 1 j (omega arith),
           ahead-in n 2 j (omega arith),
           ahead-in n 4 j (omega arith),
+          new-e sc s j r y1,
+          new-e sc s (j + 1) r y2,
+          new-a sc s (j + 2) r y3,
           g,
           h,
           ahead-in n 1 l (omega arith),
+          p,
           coded-first (unless (not (eqb (tok j .num) (tok (j + 1) .num))) 6 (tok (j + 1) .at)),
           coded-judge,
           coded-first (termTwice t),
@@ -230,7 +258,7 @@ module _ (tok : ℕ → Token) (n : ℕ) where
         )
 
     pub term-at : {room i : ℕ} {t : STerm} {k : ℕ} (sc : Names) (s : Scope) → Wide sc (room + room) → Reach tok n sc s → TermAt tok n room i t k →
-        termOf room sc i ≡ walked k (coded (termTwice t)) (coded (verdict s t))
+        termOf room sc i ≡ found k s t
     term-at sc s z r (resultAt x) = result-at sc s r x
     term-at sc s z r (callAt o w f b x c) = call-at sc s r o w x c
     term-at {room = suc room} {i} sc s z r (ifAt {s = t′} {u = u′} o w (at.ConditionAt.eqaAt p q x y e) t u f) =
@@ -242,6 +270,6 @@ module _ (tok : ℕ → Token) (n : ℕ) where
         let w1 = push-wide sc j (suc (room + room)) v2 in
         let r1 = push-e tok n sc s j (suc (room + room)) v2 (hd .kind) r in
         let r2 = push-e tok n (push sc j) (withE (tok j .num) s) (j + 1) (room + room) w1 (tl .kind) r1 in
-        consp-at t′ u′ sc s r o w (simp add-assoc at q) (simp add-assoc at x) e f
+        consp-at t′ u′ sc s r o w (simp add-assoc at q) (simp add-assoc at x) (hd .kind) (tl .kind) (av .kind) e f
         (term-at (push (push sc j) (j + 1)) _ (push-wide (push sc j) (j + 1) (room + room) w1) r2 t)
         (term-at (push sc (j + 2)) _ (push-wide sc (j + 2) (room + room) v1) (push-a tok n sc s (j + 2) (room + room) v1 (av .kind) r) u)

@@ -1,5 +1,5 @@
 // Reading and checking a program: "Each: 1; 2; then 3, 4, 5 at the earliest token. Program: 6; then 7, 8, 9 at the earliest token"
-// (01, "From the input").
+// (01, "From the input"), and 13 "after 6 and before 7, 8 and 9" (02, request 1).
 use lent::clear::clear;
 use lent::clear::clear_tokens;
 use lent::read::Read;

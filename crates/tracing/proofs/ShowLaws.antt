@@ -15,7 +15,7 @@ use Rattle.expressions.specs.Restriction.{simplify}
 use Rattle.expressions.specs.Contraction.{CRPair, contract}
 use Rattle.expressions.specs.Split.{splitAtomic}
 use Rattle.language.specs.Program.{eqa, consp, Term, call, conditional, result, Param, Prog, find}
-use Rattle.language.specs.WellFormed.{wellFormed}
+use Rattle.language.specs.WellFormed.{admitted}
 use Rattle.semantics.specs.Environment.{bindParams}
 use Rattle.semantics.specs.Configuration.{substOfEnv, state, withEnv, nodesState, Configuration}
 use Rattle.semantics.specs.Trace.{Successors, terminal, called, branches, configuration, successorsOf, successors}
@@ -45,7 +45,7 @@ use Rattle.tracing.specs.declared.ask.Asked.the-variants.{End, Call, Sam
 -- a program that is linked and well formed: "64 definitions of at most 16 parameters"
 pub record Accepted (p : Prog) (bodies : ℕ → ℕ) (code : List ℕ) : Type 0 where
   pub linked : ProgramLinked p bodies code
-  pub formed : wellFormed p ≡ true
+  pub formed : admitted p ≡ true
   pub few : (f : ℕ) → f < length p → length (find p f .params) ≤ 16
 
 none-past : (code : List ℕ) (i : ℕ) → 4097 ≤ i → linkAt code i .past ≡ 0
@@ -171,7 +171,7 @@ module _ (p : Prog) (bodies : ℕ → ℕ) (code : List ℕ) (ok : Accepted p bo
       let d : g < length p = scoped-call (subst (λ (t : Term). WellScoped p t (K .cr .con .env)) is scoped) .0 in
       let a = call-at (here (call g ds) is) d in
       let k = asked-call (a .mark) in
-      let l = call-leads p bodies code (ok .linked) (ok .formed) (ok .few) h f q c K x constants size room g ds is scoped in
+      let l = call-leads p bodies code (ok .linked) (ok .few) h f q c K x constants size room g ds is scoped in
       let w : (b : Bool) → Leads p bodies code h (c .used) (some (behind g ds)) (takenAs code c Call b h f q) = λ b. either b l in
       subst Shows (inv (call-successors p K g ds is)) (rw k (refl, refl, w, looked 3 Call h a k below-self (x .holds .heap-size) refl))
     where

@@ -4,11 +4,11 @@ use heap::configuration::Branches;
 use linking::code::CALL;
 use linking::code::SAME;
 use linking::code::TEST;
-use replay::position::Bounds;
+use positions::position::Bounds;
 use saving::head::Node;
 ghost use mathlib.Core.Path.{_≡_};
 ghost use mathlib.Core.Bool.{Bool};
-ghost use Rattle.turns.specs.twins.Choices.{isBoth, firstBranch, isResult, isDeep, isSpent, wayOn};
+ghost use Rattle.turns.specs.twins.Choices.{isBoth, firstBranch, isResult, isDeep, isOver, isSpent, wayOn};
 
 // Call: a call. Choice: a condition. Leaf: none, as at an end and N deep.
 pub enum Way {
@@ -51,6 +51,13 @@ pub fn is_deep(b: Bounds, n: Node) -> bool
     ensures { λ r. ⌜ r ≡ isDeep b n ⌝ }
 {
     b.steps <= n.steps
+}
+
+// "21 over 4,096 nodes: at the start"
+pub fn is_over(nodes: usize) -> bool
+    ensures { λ r. ⌜ r ≡ isOver nodes ⌝ }
+{
+    4096 < nodes
 }
 
 // "23 a transition would be number W+1"

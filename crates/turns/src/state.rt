@@ -6,8 +6,8 @@ use crate::found::cut_off;
 use crate::found::with_lines;
 use heap::configuration::Moved;
 use lines::end::Ended;
-use replay::position::Position;
-use replay::position::moved_from;
+use positions::position::Position;
+use positions::position::moved_from;
 ghost use mathlib.Core.Path.{_≡_};
 ghost use Rattle.turns.specs.twins.States.{stateAt, afterEnd, cutAt, afterMove};
 

@@ -4,11 +4,23 @@ use crate::meaning::write;
 use crate::meaning::write_meaning;
 use crate::place::line_end;
 use crate::place::place_of;
+use crate::place::shown_byte;
+use crate::place::shown_part;
 use answers::list::Word;
 use cells::cell::byte;
 use cells::cell::least;
-use cells::part::part;
 use libc::STDERR_FILENO;
+
+// The bytes of a part of a line: tab and printable ASCII as they are, `?` for what could set a terminal.
+fn write_line(text: &[u8], from: usize, to: usize) {
+    let end = least(to, text.len());
+    let mut i = from;
+    while i < end {
+        let one: [u8; 1] = [shown_byte(byte(text, i))];
+        write(STDERR_FILENO, &one);
+        i += 1;
+    }
+}
 
 // Under each byte of the line up to the place a blank, or the tab that stands there, so that the caret stands under the place.
 fn write_blanks(text: &[u8], from: usize, to: usize) {
@@ -24,10 +36,31 @@ fn write_blanks(text: &[u8], from: usize, to: usize) {
     }
 }
 
+fn write_where(asked: bool, bytes: &[u8]) {
+    if asked {
+        write(STDERR_FILENO, bytes);
+    }
+}
+
+// The line that begins at `start`, a part of it where it is long, and a caret under the place.
+fn show_place(text: &[u8], start: usize, offset: usize) {
+    let end = line_end(text, start);
+    let e = shown_part(start, end, offset);
+    let from = e.from;
+    let to = e.to;
+    write(STDERR_FILENO, b"  ");
+    write_where(start < from, b"...");
+    write_line(text, from, to);
+    write_where(to < end, b"...");
+    write(STDERR_FILENO, b"\n  ");
+    write_where(start < from, b"   ");
+    write_blanks(text, from, offset);
+    write(STDERR_FILENO, b"^\n");
+}
+
 // `FILE:LINE:COLUMN: refused 9: this variable is not in reach`, the line, and a caret under the place.
 pub fn refusal(name: &[u8], text: &[u8], number: usize, offset: usize) {
     let p = place_of(text, offset);
-    let start = p.start;
     write(STDERR_FILENO, name);
     write(STDERR_FILENO, b":");
     io::print_decimal(STDERR_FILENO, p.line as u64);
@@ -41,11 +74,7 @@ pub fn refusal(name: &[u8], text: &[u8], number: usize, offset: usize) {
     if text.len() == 0 {
         return;
     }
-    write(STDERR_FILENO, b"  ");
-    write(STDERR_FILENO, part(text, start, line_end(text, start)));
-    write(STDERR_FILENO, b"\n  ");
-    write_blanks(text, start, offset);
-    write(STDERR_FILENO, b"^\n");
+    show_place(text, p.start, offset);
     write_hint(text, offset);
 }
 

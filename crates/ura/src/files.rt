@@ -3,7 +3,6 @@ use crate::explain::ending;
 use crate::explain::refusal;
 use crate::places::alike;
 use answers::list;
-use answers::run;
 use cells::cell::least;
 use cells::part::part;
 use libc::STDERR_FILENO;
@@ -14,6 +13,7 @@ use pages::files::read_input;
 use pages::output::Written;
 use pages::output::list_texts;
 use pages::output::run_texts;
+use run_answers::run;
 
 // Lines that are missing must not go unnoticed: a loader is released from the list.
 fn report(written: Written) {

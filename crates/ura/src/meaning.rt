@@ -1,4 +1,4 @@
-// Each number of a refusal (01, "From the input") and of a stop ("From the state", "The walk and what stops it") in words.
+// Each number of a refusal (01, "From the input"; 13: 02, request 1) and of a stop ("From the state", "The walk and what stops it") in words.
 pub fn write(fd: i32, bytes: &[u8]) {
     io::write_all(fd, bytes);
 }
@@ -30,7 +30,7 @@ fn write_early(fd: i32, number: usize) {
     }
 }
 
-// 7 to 12.
+// 7 to 13.
 fn write_late(fd: i32, number: usize) {
     match number {
         7 => write(
@@ -47,18 +47,22 @@ fn write_late(fd: i32, number: usize) {
             fd,
             b"this side of a non-equality is no atom, or its variable stands in neither input nor output",
         ),
-        _ => write(
+        12 => write(
             fd,
             b"the number is too large: steps 1000, walk 1000000, table 256 are the most",
+        ),
+        _ => write(
+            fd,
+            b"this name is in reach already: a cons? binds new names alone",
         ),
     }
 }
 
-// The sentence of a number of 1 to 12 and 20 to 23.
+// The sentence of a number of 1 to 13 and 20 to 23.
 pub fn write_meaning(fd: i32, number: usize) {
     match number {
         1..=6 => write_early(fd, number),
-        7..=12 => write_late(fd, number),
+        7..=13 => write_late(fd, number),
         20 => write(fd, b"the storage that was lent is too short"),
         21 => write(fd, b"a configuration has over 4096 nodes"),
         22 => write(
@@ -81,7 +85,7 @@ fn write_number(fd: i32, number: usize) {
 
 // All of them, a line each.
 pub fn write_numbers(fd: i32) {
-    for number in 1..13usize {
+    for number in 1..14usize {
         write_number(fd, number);
     }
     for number in 20..24usize {

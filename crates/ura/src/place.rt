@@ -1,4 +1,11 @@
-// Where a byte of a text stands.
+// Where a byte of a text stands, and what is shown of its line.
+use cells::cell::least;
+use cells::cell::less;
+
+// How much of a long line is shown, and how much of that stands before the place.
+const SHOWN: usize = 100;
+
+const BEFORE: usize = 60;
 
 // Its line and its column, both from 1 on, and the index of the line's first byte.
 pub struct Place {
@@ -48,4 +55,35 @@ pub fn line_end(text: &[u8], start: usize) -> usize {
         i += 1;
     }
     i
+}
+
+// The part of a line that is shown.
+pub struct Excerpt {
+    pub from: usize,
+    pub to: usize,
+}
+
+// All of a line from `start` to `end`, or of a long one what stands around the place.
+pub fn shown_part(start: usize, end: usize, place: usize) -> Excerpt {
+    if less(end, start) <= SHOWN {
+        return Excerpt {
+            from: start,
+            to: end,
+        };
+    }
+    let near = less(place, BEFORE);
+    let from = if start < near { near } else { start };
+    Excerpt {
+        from: from,
+        to: least(end, least(from, 65536) + SHOWN),
+    }
+}
+
+// A byte as it is shown: tab and printable ASCII alone, since others could set a terminal.
+pub fn shown_byte(b: u8) -> u8 {
+    match b {
+        b'\t' => b,
+        b' '..=b'~' => b,
+        _ => b'?',
+    }
 }

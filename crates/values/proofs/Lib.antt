@@ -1,7 +1,6 @@
 pub mod ValueTurns
 pub mod ValueLaws
 pub mod RoomLaws
-pub mod BindLaws
 pub mod StateLaws
 pub mod SizeLaws
 pub mod PairLaws

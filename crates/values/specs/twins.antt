@@ -2,4 +2,3 @@
 pub mod Names
 pub mod Sizes
 pub mod Values
-pub mod Binding

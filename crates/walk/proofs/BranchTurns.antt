@@ -11,10 +11,10 @@ use Rattle.heap.specs.declared.configuration.Moved.{Moved}
 use Rattle.tracing.specs.twins.Asking.{AskLeft, askLeft, askedAt, branchesAsked}
 use Rattle.tracing.specs.declared.ask.Asked.{Asked}
 use Rattle.trails.specs.twins.TrailCells.{pathLeft, backtracked}
-use Rattle.replay.specs.twins.Positions.{atDepth}
+use Rattle.positions.specs.twins.Positions.{atDepth}
 use Rattle.replay.specs.twins.Replaying.{replayLeft, broughtBack}
-use Rattle.replay.specs.declared.position.Position.{Position}
-use Rattle.replay.specs.declared.position.Bounds.{Bounds}
+use Rattle.positions.specs.declared.position.Position.{Position}
+use Rattle.positions.specs.declared.position.Bounds.{Bounds}
 use Rattle.turns.specs.twins.Choices.{firstBranch, isSpent}
 use Rattle.turns.specs.twins.States.{stateAt, afterMove}
 use Rattle.turns.specs.declared.found.Ending.the-variants.{Done, Spent}

@@ -44,8 +44,8 @@ use Rattle.initial.specs.declared.begin.Begun.the-variants.{On}
 use Rattle.initial.proofs.BeginLaws.{inMain, Begins}
 use Rattle.lines.specs.LineCells.{answerRoom}
 use Rattle.lines.proofs.LineLaws.{LinesHeld}
-use Rattle.replay.specs.twins.Rooms.{withUsed}
-use Rattle.replay.specs.declared.position.Bounds.{Bounds}
+use Rattle.positions.specs.twins.Used.{withUsed}
+use Rattle.positions.specs.declared.position.Bounds.{Bounds}
 use Rattle.replay.proofs.RecordLaws.{Entered, Recorded, Rooted, only}
 use Rattle.turns.specs.twins.Finding.{walked, nothingFound, counted, cutOff}
 use Rattle.turns.specs.twins.States.{stateAt}

@@ -8,7 +8,7 @@ use Rattle.syntax.specs.declared.job_ends.JobEnds.{JobEnds}
 use Rattle.syntax.specs.declared.numerals.Numerals.{Numerals}
 use Rattle.heap.specs.declared.configuration.Configuration.{Configuration}
 use Rattle.constants.specs.twins.Laying.{ConstantsLeft, constantsLeft, constantsLaid}
-use Rattle.replay.specs.twins.Rooms.{withUsed}
+use Rattle.positions.specs.twins.Used.{withUsed}
 use Rattle.saving.specs.twins.Saving.{saveLeft, savedTo}
 use Rattle.initial.specs.twins.Beginning.{BegunLeft, begunLeft, begunAt}
 use Rattle.initial.specs.declared.begin.Begun.{Begun}

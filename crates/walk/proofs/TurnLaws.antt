@@ -54,10 +54,10 @@ use Rattle.lines.specs.declared.end.Ended.{Ended}
 use Rattle.lines.specs.declared.end.Ended.the-variants.{Going, Over as EndedOver, Full as EndedFull}
 use Rattle.lines.proofs.LineLaws.{LinesHeld}
 use Rattle.lines.proofs.EndLaws.{EndMeans, EndKept, end-means, end-kept}
-use Rattle.replay.specs.twins.Positions.{atDepth}
+use Rattle.positions.specs.twins.Positions.{atDepth}
 use Rattle.replay.specs.twins.Rooms.{RoomLeft, madeRoom}
 use Rattle.replay.specs.twins.Replaying.{savedIf}
-use Rattle.replay.specs.declared.position.Bounds.{Bounds}
+use Rattle.positions.specs.declared.position.Bounds.{Bounds}
 use Rattle.replay.proofs.RecordLaws.{Entered, Rooted}
 use Rattle.replay.proofs.RoomLaws.{Kept, At, room-made}
 use Rattle.replay.proofs.ReplayLaws.{Holds, at-constants, Showing, showing, kept-later, choice-kept, Waiting}

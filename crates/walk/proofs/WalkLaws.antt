@@ -31,9 +31,9 @@ use Rattle.tracing.specs.declared.ask.Asked.{Asked}
 use Rattle.tracing.proofs.ShowLaws.{Accepted}
 use Rattle.trails.specs.twins.TrailCells.{latestPending, backtracked, pathLeft}
 use Rattle.trails.proofs.TrailLaws.{PathHeld, path-shorter, Backed, spent, turned, backs, backtrack-ended, backtrack-held}
-use Rattle.replay.specs.twins.Positions.{atDepth, movedFrom}
+use Rattle.positions.specs.twins.Positions.{atDepth, movedFrom}
 use Rattle.replay.specs.twins.Replaying.{ReplayLeft, broughtBack}
-use Rattle.replay.specs.declared.position.Bounds.{Bounds}
+use Rattle.positions.specs.declared.position.Bounds.{Bounds}
 use Rattle.replay.proofs.RecordLaws.{Entered, Rooted, passed, saves-more, saves-below}
 use Rattle.replay.proofs.ReplayLaws.{Holds, showing, Waiting, bring-means}
 use Rattle.turns.specs.twins.Finding.{walked, counted}

@@ -3,7 +3,7 @@ use Prim.Native.Nat.{ℕ, zero, suc, _-_, _≤_, _<_}
 use mathlib.Core.Path.{_≡_}
 use mathlib.Core.List.{List}
 use native.Mathlib.Omega.{arith}
-use Rattle.replay.specs.declared.position.Bounds.{Bounds}
+use Rattle.positions.specs.declared.position.Bounds.{Bounds}
 use Rattle.turns.specs.twins.Finding.{walked}
 use Rattle.walk.specs.twins.Walking.{walkTurn, walkedLeft, afterTurn, walkedFrom}
 use Rattle.turns.specs.declared.found.Ending.the-variants.{Spent}

@@ -1,8 +1,8 @@
 // Behind a leaf: "the latest choice whose false branch is untaken now takes it".
 use crate::leaves::meet_leaf;
 use crate::make::move_on;
-use replay::position::Bounds;
-use replay::position::at_depth;
+use positions::position::Bounds;
+use positions::position::at_depth;
 use replay::replay::bring_back;
 use tracing::ask::ask;
 use trails::trail::backtrack;

@@ -4,13 +4,14 @@ use constants::lay::lay_constants;
 use heap::configuration::Configuration;
 use initial::begin::Begun;
 use initial::begin::begin;
-use replay::position::Bounds;
-use replay::position::Position;
-use replay::room::with_used;
+use positions::position::Bounds;
+use positions::position::Position;
+use positions::used::with_used;
 use saving::head::Node;
 use saving::saved::save;
 use syntax::job_ends::JobEnds;
 use syntax::numerals::Numerals;
+use turns::choice::is_over;
 use turns::found;
 use turns::found::Ending;
 use turns::found::Walked;
@@ -63,7 +64,7 @@ fn walk_begun(
 ) -> Walked
     ensures { λ r. ⌜ jobLeft r (now (answer .exit)) ≡ walkBegun (now (code .entry)) c k (now (heap .entry)) (now (frame .entry)) (now (q .entry)) (now (answer .entry)) ⌝ }
 {
-    if 4096 < kept_nodes(frame, c.entries, c.neqs) {
+    if is_over(kept_nodes(frame, c.entries, c.neqs)) {
         return found::stopped(Ending::Over, nothing());
     }
     if k.steps == 0 {

@@ -1,7 +1,7 @@
 // A leaf of the tree: its end is met, or its path is cut.
 use lines::end::meet_end;
 use linking::code::link_at;
-use replay::position::Bounds;
+use positions::position::Bounds;
 use turns::choice::is_result;
 use turns::state::Leaving;
 use turns::state::State;

@@ -4,7 +4,7 @@ use crate::make::make_call;
 use crate::make::make_choice;
 use cells::cell;
 use linking::code::link_at;
-use replay::position::Bounds;
+use positions::position::Bounds;
 use replay::room::have_room;
 use saving::head::Node;
 use turns::choice::Way;

@@ -1,11 +1,11 @@
 //! Refused texts: the number, the place, and a sentence for each number.
 use std::fmt::{self, Display, Formatter};
 
-/// What a number of a refusal (1 to 12 and 20) or of a stop (21 to 23) says, as a sentence; none for other numbers.
+/// What a number of a refusal (1 to 13 and 20) or of a stop (21 to 23) says, as a sentence; none for other numbers.
 ///
 /// ```
 /// assert_eq!(raugvite::sentence(9), Some("this variable is not in reach"));
-/// assert_eq!(raugvite::sentence(13), None);
+/// assert_eq!(raugvite::sentence(14), None);
 /// ```
 pub fn sentence(number: usize) -> Option<&'static str> {
     Some(match number {
@@ -21,6 +21,7 @@ pub fn sentence(number: usize) -> Option<&'static str> {
         10 => "the job's inputs are unlike main's parameters in number or kind, or one has a variable in a run",
         11 => "this side of a non-equality is no atom, or its variable stands in neither input nor output",
         12 => "the number is too large: steps 1000, walk 1000000, table 256 are the most",
+        13 => "this name is in reach already: a cons? binds new names alone",
         20 => "the storage that was lent is too short",
         21 => "a configuration has over 4096 nodes",
         22 => "the listing has more lines than the job's table, or over 16384 nodes in them",
@@ -77,7 +78,7 @@ impl Display for Text {
 pub struct Refusal {
     /// The text that is refused.
     pub text: Text,
-    /// 1 to 12; [`sentence`] has what each says.
+    /// 1 to 13; [`sentence`] has what each says.
     pub number: usize,
     /// The byte at fault, counted from 0; the text's length where it ends too early.
     pub offset: usize,
@@ -133,7 +134,7 @@ mod tests {
     #[test]
     fn every_number_has_its_sentence() {
         for number in 0..100 {
-            let due = matches!(number, 1..=12 | 20..=23);
+            let due = matches!(number, 1..=13 | 20..=23);
             assert_eq!(sentence(number).is_some(), due, "{number}");
         }
     }

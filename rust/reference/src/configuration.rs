@@ -87,17 +87,17 @@ impl<'p> Configuration<'p> {
                 let sides = [left, right].map(|exp| self.environment.value(exp));
                 self.branch(&Split::of_eqa(sides), terms)
             }
-            Condition::Cons { subject, head, tail, atom } => {
+            Condition::Cons { subject } => {
                 let value = self.environment.value(subject);
                 let (split, counter) = Split::of_cons(&value, self.counter);
                 self.counter = counter;
                 let [mut yes, mut no] = self.branch(&split, terms);
                 if let (Some(yes), Expression::Pair(pair)) = (&mut yes, split.yes.subject(&value)) {
-                    yes.environment.bind(*head, pair.head.clone());
-                    yes.environment.bind(*tail, pair.tail.clone());
+                    yes.environment.bind(pair.head.clone());
+                    yes.environment.bind(pair.tail.clone());
                 }
                 if let Some(no) = &mut no {
-                    no.environment.bind(*atom, split.no.subject(&value).clone());
+                    no.environment.bind(split.no.subject(&value).clone());
                 }
                 [yes, no]
             }

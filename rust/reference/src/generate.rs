@@ -59,15 +59,19 @@ pub fn case(seed: u64) -> Case {
     case_of(flavour, seed)
 }
 
-/// The case of a seed in one flavour.
+/// The case of a seed in one flavour. In a few of a hundred sound ones a name
+/// is bound again, which is refused by 13.
 pub fn case_of(flavour: Flavour, seed: u64) -> Case {
     let mut random = Random::new(seed);
-    let texts = match flavour {
+    let mut texts = match flavour {
         Flavour::Sound => sound::texts(&mut random, false),
         Flavour::Ground => sound::texts(&mut random, true),
         Flavour::Branching => branching::texts(&mut random),
         Flavour::Sized => sized::texts(&mut random),
         Flavour::Damaged => return damage::case(&mut random),
     };
+    if random.chance(5) {
+        damage::rebind(&mut texts.program, &mut random);
+    }
     texts.spaced(&mut random)
 }

@@ -1,7 +1,9 @@
 //! A plain implementation of the resolver that 01 describes, written from
 //! 01, its list of readings and document 001 alone, so that its answers are
-//! evidence for those of others. It keeps trees on the heap and uses the
-//! standard library freely; it knows nothing of lent storage (20).
+//! evidence for those of others; the check of 13 (02, request 1) was added
+//! later, with the definitions of the proved one in view. It keeps trees on
+//! the heap and uses the standard library freely; it knows nothing of lent
+//! storage (20).
 
 pub mod configuration;
 pub mod contraction;

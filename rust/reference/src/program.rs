@@ -2,9 +2,8 @@
 //! environment.
 //!
 //! Which variables are in reach depends on the place in the text alone, so
-//! every variable has one slot there: a name bound again takes the slot of
-//! the earlier one, a new name the next slot (01: "A name bound again
-//! replaces the earlier one").
+//! every variable has one slot there. A `cons?` binds new names alone (02,
+//! request 1), which take the next slots.
 
 use crate::expression::{Expression, Kind, Name};
 
@@ -27,7 +26,7 @@ pub enum Term {
 
 pub enum Condition {
     Eqa { left: Exp, right: Exp },
-    Cons { subject: Exp, head: usize, tail: usize, atom: usize },
+    Cons { subject: Exp },
 }
 
 pub enum Exp {
@@ -73,12 +72,8 @@ impl Environment {
         Environment::new(arguments.iter().map(|e| self.value(e)).collect())
     }
 
-    /// Binds a slot in reach again, or the next slot for a new name.
-    pub fn bind(&mut self, slot: usize, value: Expression) {
-        if slot == self.values.len() {
-            self.values.push(value);
-        } else {
-            self.values[slot] = value;
-        }
+    /// Binds a new name at the next slot.
+    pub fn bind(&mut self, value: Expression) {
+        self.values.push(value);
     }
 }

@@ -1,5 +1,6 @@
-//! The check of the program: refusals 6, then 7, 8 and 9 at the earliest
-//! token. While it looks at every name it also finds its place.
+//! The check of the program: refusals 6, then 13 (02, request 1), then 7, 8
+//! and 9 at the earliest token. While it looks at every name it also finds
+//! its place.
 
 use std::collections::{HashMap, HashSet};
 
@@ -11,6 +12,7 @@ use crate::syntax::{Condition, ConsNames, Definition, Exp, ProgramVariable, Shap
 
 pub fn check_program(definitions: &[Definition]) -> Result<Program, Fault> {
     earliest(repeated_names(definitions))?;
+    earliest(rebound_names(definitions))?;
     let mut check = Check { functions: functions(definitions), faults: Vec::new() };
     let checked = definitions.iter().map(|d| check.definition(d)).collect();
     earliest(check.faults)?;
@@ -48,6 +50,30 @@ fn repeats_in_term(term: &Term, faults: &mut Vec<Fault>) {
     }
 }
 
+/// Refusal 13: a name that a `cons?` binds although it is in reach there,
+/// `e.x` and `a.x` being two. Who calls the definition is not asked.
+fn rebound_names(definitions: &[Definition]) -> Vec<Fault> {
+    let mut faults = Vec::new();
+    for definition in definitions {
+        rebound_in_term(&definition.body, &parameters(definition), &mut faults);
+    }
+    faults
+}
+
+fn rebound_in_term(term: &Term, reach: &Reach, faults: &mut Vec<Fault>) {
+    let Term::If { condition, branches } = term else { return };
+    let (if_true, if_false) = match condition {
+        Condition::Eqa { .. } => (reach.clone(), reach.clone()),
+        Condition::Cons { names, .. } => {
+            let rebound = [names.head, names.tail, names.atom].into_iter().filter(|name| reach.contains(&name.item));
+            faults.extend(rebound.map(|name| Fault::new(13, name.offset)));
+            branch_reaches(names, reach)
+        }
+    };
+    rebound_in_term(&branches.0, &if_true, faults);
+    rebound_in_term(&branches.1, &if_false, faults);
+}
+
 type Functions = HashMap<Name, (usize, Vec<Kind>)>;
 
 fn functions(definitions: &[Definition]) -> Functions {
@@ -58,14 +84,15 @@ fn functions(definitions: &[Definition]) -> Functions {
 /// The variables in reach, each at its slot.
 type Reach = Vec<ProgramVariable>;
 
-fn bring_into_reach(reach: &mut Reach, variable: ProgramVariable) -> usize {
-    match reach.iter().position(|v| *v == variable) {
-        Some(slot) => slot,
-        None => {
-            reach.push(variable);
-            reach.len() - 1
-        }
-    }
+fn parameters(definition: &Definition) -> Reach {
+    definition.parameters.iter().map(|p| p.item).collect()
+}
+
+/// The true branch has the two xe, the false one the xa, neither the
+/// other's.
+fn branch_reaches(names: &ConsNames, reach: &Reach) -> (Reach, Reach) {
+    let with = |new: &[ProgramVariable]| [reach, new].concat();
+    (with(&[names.head.item, names.tail.item]), with(&[names.atom.item]))
 }
 
 struct Check {
@@ -75,7 +102,7 @@ struct Check {
 
 impl Check {
     fn definition(&mut self, definition: &Definition) -> program::Definition {
-        let reach: Reach = definition.parameters.iter().map(|p| p.item).collect();
+        let reach = parameters(definition);
         program::Definition { parameters: reach.iter().map(|variable| variable.0).collect(), body: self.term(&definition.body, &reach) }
     }
 
@@ -118,22 +145,13 @@ impl Check {
                 // The subject stands outside both branches, so it is valued
                 // where the names of this `cons?` are not yet in reach.
                 let subject = self.exp(subject, reach);
-                self.cons(subject, names, (yes, no), reach)
+                let (if_pair, if_atom) = branch_reaches(names, reach);
+                program::Term::If {
+                    condition: program::Condition::Cons { subject },
+                    yes: Box::new(self.term(yes, &if_pair)),
+                    no: Box::new(self.term(no, &if_atom)),
+                }
             }
-        }
-    }
-
-    /// The true branch has the two xe, the false one the xa, neither the
-    /// other's; an earlier variable of that name stays in reach there.
-    fn cons(&mut self, subject: program::Exp, names: &ConsNames, branches: (&Term, &Term), reach: &Reach) -> program::Term {
-        let (mut if_pair, mut if_atom) = (reach.clone(), reach.clone());
-        let head = bring_into_reach(&mut if_pair, names.head.item);
-        let tail = bring_into_reach(&mut if_pair, names.tail.item);
-        let atom = bring_into_reach(&mut if_atom, names.atom.item);
-        program::Term::If {
-            condition: program::Condition::Cons { subject, head, tail, atom },
-            yes: Box::new(self.term(branches.0, &if_pair)),
-            no: Box::new(self.term(branches.1, &if_atom)),
         }
     }
 

@@ -63,14 +63,14 @@ impl<'p> State<'p> {
     fn decide(&mut self, condition: &Condition) -> bool {
         match condition {
             Condition::Eqa { left, right } => self.environment.value(left) == self.environment.value(right),
-            Condition::Cons { subject, head, tail, atom } => match self.environment.value(subject) {
+            Condition::Cons { subject } => match self.environment.value(subject) {
                 Expression::Pair(pair) => {
-                    self.environment.bind(*head, pair.head.clone());
-                    self.environment.bind(*tail, pair.tail.clone());
+                    self.environment.bind(pair.head.clone());
+                    self.environment.bind(pair.tail.clone());
                     true
                 }
                 other => {
-                    self.environment.bind(*atom, other);
+                    self.environment.bind(other);
                     false
                 }
             },

@@ -25,7 +25,7 @@ fn damaged_texts_reach_every_refusal() {
             seen.insert((letter, number));
         }
     }
-    let program = (1..=9).map(|number| ('p', number));
+    let program = (1..=9).chain([13]).map(|number| ('p', number));
     let job = [1, 2, 3, 4, 5, 10, 11, 12].map(|number| ('j', number));
     let due: BTreeSet<(char, u32)> = program.chain(job).collect();
     assert_eq!(seen, due);
@@ -60,7 +60,7 @@ fn tree(leaves: usize) -> String {
 /// have L * (m + 1 + L) nodes together.
 #[test]
 fn line_nodes_16384_and_16385() {
-    let program = "(define f [e.x e.y] (if (cons? e.y e.h e.y a.p) (call f [e.x e.y]) 'A))";
+    let program = "(define f [e.x e.y] (if (cons? e.y e.h e.t a.p) (call f [e.x e.t]) 'A))";
     let job = |lines: usize, nodes: usize| {
         let (leaves, steps) = (nodes.div_ceil(2), 2 * lines);
         format!("(job (in {} ?e1) (out 'A) (neq) (steps {steps}) (walk 999) (table 256))", tree(leaves))

@@ -16,6 +16,7 @@ use Rattle.checker.specs.declared.check.Walked.{Walked}
 use Rattle.checker.specs.declared.check.Args.{Args}
 use Rattle.checker.specs.declared.check.Names.{Names}
 use Rattle.checker.specs.declared.check.Defs.{Defs}
+use Rattle.checker.specs.declared.check.Bodies.{Bodies}
 
 -- of two faults the first
 abbrev pub first : Verdict → Verdict → Verdict
@@ -31,12 +32,17 @@ judge false n o = Fault n o
 abbrev pub ahead : ℕ → ℕ → ℕ → ℕ
 ahead n k i = cond (ltb n k) n (cond (ltb (n - k) i) n (i + k))
 
-abbrev pub walked : ℕ → Verdict → Verdict → Walked
-walked k v w = record { past = k; names = v; uses = w }
+abbrev pub walked : ℕ → Verdict → Verdict → Verdict → Walked
+walked k v b w = record { past = k; names = v; rebound = b; uses = w }
 
 -- 7 at the name of a call, then what its arguments have
 abbrev pub called : ℕ → Verdict → Verdict → Walked
-called k v w = walked k Fine (first v w)
+called k v w = walked k Fine Fine (first v w)
+
+-- of each group what the condition has, then what the true branch has, then what the false one has
+unfoldable pub branched : ℕ → Walked → Walked → Walked → Walked
+branched k c s u =
+    walked k (first (c .names) (first (s .names) (u .names))) (first (c .rebound) (first (s .rebound) (u .rebound))) (first (c .uses) (first (s .uses) (u .uses)))
 
 abbrev pub arguments : ℕ → Bool → Verdict → Args
 arguments k b v = record { past = k; fits = b; uses = v }
@@ -127,16 +133,28 @@ module _ (key kind num at : ℕ → ℕ) (n : ℕ) where
   abbrev pub inReach : Names → ℕ → Bool
   inReach sc i = isNamed kind num (sc .cells) (sc .used) i
 
+  -- "A name .. that a `cons?` binds may no longer be one already in reach on that branch." "Refused: 13, at the rebound name" (02, request 1)
+  abbrev pub newAt : Names → ℕ → Verdict
+  newAt sc i = judge (not (inReach sc i)) 13 (at i)
+
+  -- a `cons?` whose e comes to c and ends before its three names: "6 ... equal names in one `cons?`", and 13
+  unfoldable pub bindingAt : Names → Walked → Walked
+  bindingAt sc c =
+      let h = c .past in
+      let t = ahead n 1 h in
+      let x = ahead n 2 h in
+      walked h (judge (not (eqb (num h) (num t))) 6 (at t)) (first (newAt sc h) (first (newAt sc t) (newAt sc x))) (c .uses)
+
   -- "9 variable not in reach"
   abbrev pub leafAt : Names → ℕ → Walked
-  leafAt sc i = walked (ahead n 1 i) Fine (judge (isKind symbol i || inReach sc i) 9 (at i))
+  leafAt sc i = walked (ahead n 1 i) Fine Fine (judge (isKind symbol i || inReach sc i) 9 (at i))
 
   -- `(cons e e)`
   abbrev pub pairAt : (ℕ → Walked) → ℕ → Walked
   pairAt again i =
       let c = again (ahead n 2 i) in
       let d = again (c .past) in
-      walked (ahead n 1 (d .past)) Fine (first (c .uses) (d .uses))
+      walked (ahead n 1 (d .past)) Fine Fine (first (c .uses) (d .uses))
 
   -- an e
   unfoldable pub expAt : ℕ → Names → ℕ → Walked
@@ -146,7 +164,7 @@ module _ (key kind num at : ℕ → ℕ) (n : ℕ) where
   -- "8 not atomic where an ea is due", then 9
   unfoldable pub eaAt : ℕ → Names → ℕ → Walked
   unfolding expAt
-  eaAt room sc i = let c = expAt room sc i in walked (c .past) Fine (first (judge (atomicAt key kind i) 8 (at i)) (c .uses))
+  eaAt room sc i = let c = expAt room sc i in walked (c .past) Fine Fine (first (judge (atomicAt key kind i) 8 (at i)) (c .uses))
 
   -- "A parameter `a.NAME` takes only an ea": the parameter stands at p
   abbrev pub argAt : ℕ → Names → ℕ → ℕ → Walked
@@ -177,20 +195,16 @@ module _ (key kind num at : ℕ → ℕ) (n : ℕ) where
         let d = eaAt room sc (c .past) in
         let s = again sc (ahead n 1 (d .past)) in
         let u = again sc (s .past) in
-        walked (ahead n 1 (u .past)) (first (s .names) (u .names)) (first (c .uses) (first (d .uses) (first (s .uses) (u .uses))))
+        branched (ahead n 1 (u .past)) (walked (d .past) Fine Fine (first (c .uses) (d .uses))) s u
 
-    -- `(if (cons? e xe xe xa) t t)`: "6 ... equal names in one `cons?`"; "The true branch of `cons?` has its two xe, the false branch its xa"
+    -- `(if (cons? e xe xe xa) t t)`: "The true branch of `cons?` has its two xe, the false branch its xa"
     abbrev pub conspAt : (Names → ℕ → Walked) → ℕ → Names → ℕ → Walked
     conspAt again room sc i =
         let c = expAt room sc (ahead n 4 i) in
         let h = c .past in
-        let t = ahead n 1 h in
-        let x = ahead n 2 h in
-        let s = again (push (push sc h) t) (ahead n 4 h) in
-        let u = again (push sc x) (s .past) in
-        walked (ahead n 1 (u .past))
-        (first (judge (not (eqb (num h) (num t))) 6 (at t)) (first (s .names) (u .names)))
-        (first (c .uses) (first (s .uses) (u .uses)))
+        let s = again (push (push sc h) (ahead n 1 h)) (ahead n 4 h) in
+        let u = again (push sc (ahead n 2 h)) (s .past) in
+        branched (ahead n 1 (u .past)) (bindingAt sc c) s u
 
     abbrev pub ifAt : (Names → ℕ → Walked) → ℕ → Names → ℕ → Walked
     ifAt again room sc i = pickTerm (isKey "eqa?" (ahead n 3 i)) (eqaAt again room) (conspAt again room) sc i
@@ -228,20 +242,23 @@ module _ (key kind num at : ℕ → ℕ) (n : ℕ) where
   defsAt zero ds = ds
   defsAt (suc left) ds = cond (isKey "" (ds .past)) ds (defsAt left (defAt ds))
 
-  -- 7, 8, 9 in the body of the definition whose name stands at h
-  abbrev pub bodyAt : List ℕ → ℕ → ℕ → Verdict
+  -- the body of the definition whose name stands at h, with its parameters in reach, for 13 and 7, 8, 9
+  abbrev pub bodyAt : List ℕ → ℕ → ℕ → Walked
   bodyAt heads count h =
       let p = ahead n 2 h in
-      termAt heads count 63 (paramsAt key n 16 noNames p) (ahead n 1 (paramsEnd key n 16 p)) .uses
+      termAt heads count 63 (paramsAt key n 16 noNames p) (ahead n 1 (paramsEnd key n 16 p))
 
-  -- and in those of the definitions from number j on
-  unfoldable pub bodiesAt : List ℕ → ℕ → ℕ → ℕ → Verdict
-  bodiesAt heads count zero j = Fine
-  bodiesAt heads count (suc left) j = first (bodyAt heads count (getD heads j 0)) (bodiesAt heads count left (j + 1))
+  -- and those of the definitions from number j on; v and w are the first faults so far
+  unfoldable pub bodiesAt : List ℕ → ℕ → ℕ → ℕ → Verdict → Verdict → Bodies
+  bodiesAt heads count zero j v w = record { rebound = v; uses = w }
+  bodiesAt heads count (suc left) j v w =
+      let t = bodyAt heads count (getD heads j 0) in
+      bodiesAt heads count left (j + 1) (first v (t .rebound)) (first w (t .uses))
 
-  -- "Program: 6; then 7, 8, 9 at the earliest token"
+  -- "Program: 6; then 7, 8, 9 at the earliest token"; 13 "after 6 and before 7, 8 and 9" (02, request 1)
   unfoldable pub programAt : Verdict
   unfolding defsAt bodiesAt
   programAt =
       let ds = defsAt 64 noDefs in
-      first (ds .names) (bodiesAt (ds .heads) (ds .count) (ds .count) 0)
+      let found = bodiesAt (ds .heads) (ds .count) (ds .count) 0 Fine Fine in
+      first (ds .names) (first (found .rebound) (found .uses))

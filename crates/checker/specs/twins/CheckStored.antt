@@ -10,6 +10,7 @@ use Rattle.checker.specs.declared.check.Walked.{Walked}
 use Rattle.checker.specs.declared.check.Args.{Args}
 use Rattle.checker.specs.declared.check.Names.{Names}
 use Rattle.checker.specs.declared.check.Defs.{Defs}
+use Rattle.checker.specs.declared.check.Bodies.{Bodies}
 
 module _ (marks : List ℕ) (n : ℕ) where
   abbrev pub atomicAt : ℕ → Bool
@@ -37,6 +38,12 @@ module _ (nums ats : List ℕ) (n : ℕ) where
   headTwice heads count h = at.headTwice (numAt nums n) (atAt ats n) heads count h
 
 module _ (marks nums ats : List ℕ) (n : ℕ) where
+  abbrev pub newAt : List ℕ → ℕ → ℕ → Verdict
+  newAt cells used i = at.newAt (keyAt marks n) (tagAt marks n) (numAt nums n) (atAt ats n) n (names cells used) i
+
+  abbrev pub bindingAt : List ℕ → ℕ → Walked → Walked
+  bindingAt cells used c = at.bindingAt (keyAt marks n) (tagAt marks n) (numAt nums n) (atAt ats n) n (names cells used) c
+
   abbrev pub leafAt : List ℕ → ℕ → ℕ → Walked
   leafAt cells used i = at.leafAt (keyAt marks n) (tagAt marks n) (numAt nums n) (atAt ats n) n (names cells used) i
 
@@ -79,11 +86,11 @@ module _ (marks nums ats : List ℕ) (n : ℕ) where
   abbrev pub defsAt : ℕ → Defs → Defs
   defsAt left ds = at.defsAt (keyAt marks n) (tagAt marks n) (numAt nums n) (atAt ats n) n left ds
 
-  abbrev pub bodyAt : List ℕ → ℕ → ℕ → Verdict
+  abbrev pub bodyAt : List ℕ → ℕ → ℕ → Walked
   bodyAt heads count h = at.bodyAt (keyAt marks n) (tagAt marks n) (numAt nums n) (atAt ats n) n heads count h
 
-  abbrev pub bodiesAt : List ℕ → ℕ → ℕ → ℕ → Verdict
-  bodiesAt heads count left j = at.bodiesAt (keyAt marks n) (tagAt marks n) (numAt nums n) (atAt ats n) n heads count left j
+  abbrev pub bodiesAt : List ℕ → ℕ → ℕ → ℕ → Verdict → Verdict → Bodies
+  bodiesAt heads count left j v w = at.bodiesAt (keyAt marks n) (tagAt marks n) (numAt nums n) (atAt ats n) n heads count left j v w
 
   abbrev pub programAt : Verdict
   programAt = at.programAt (keyAt marks n) (tagAt marks n) (numAt nums n) (atAt ats n) n

@@ -20,14 +20,14 @@ module _ (key kind : ℕ → ℕ) where
 module _ (kind at : ℕ → ℕ) (n : ℕ) (runs : Bool) where
   -- "in the runner, any variable in an input (offset: the variable)"
   abbrev pub datumLeaf : ℕ → Walked
-  datumLeaf i = walked (ahead n 1 i) Fine (judge (eqb (kind i) (tag symbol) || not runs) 10 (at i))
+  datumLeaf i = walked (ahead n 1 i) Fine Fine (judge (eqb (kind i) (tag symbol) || not runs) 10 (at i))
 
 module _ (n : ℕ) where
   abbrev pub datumPair : (ℕ → Walked) → ℕ → Walked
   datumPair again i =
       let c = again (ahead n 2 i) in
       let d = again (c .past) in
-      walked (ahead n 1 (d .past)) Fine (first (c .uses) (d .uses))
+      walked (ahead n 1 (d .past)) Fine Fine (first (c .uses) (d .uses))
 
 module _ (key kind at : ℕ → ℕ) (n : ℕ) (runs : Bool) where
   -- a d
@@ -42,7 +42,7 @@ module _ (key kind at : ℕ → ℕ) (n : ℕ) (runs : Bool) where
     unfolding datumAt
     inputAt p i =
         let c = datumAt 62 i in
-        walked (c .past) Fine (first (judge (not (eqb (mkind p) (tag aname)) || atomicAt key kind i) 10 (at i)) (c .uses))
+        walked (c .past) Fine Fine (first (judge (not (eqb (mkind p) (tag aname)) || atomicAt key kind i) 10 (at i)) (c .uses))
 
     -- the inputs from i on, the parameters from p on; b is whether they are as many so far, v the first fault so far
     unfoldable pub inputsAt : ℕ → ℕ → Bool → Verdict → ℕ → Args
@@ -76,14 +76,14 @@ module _ (key kind num at : ℕ → ℕ) (n : ℕ) (runs : Bool) where
   twoSides marked i =
       let d = datumAt key kind at n runs 61 i .past in
       let e = datumAt key kind at n runs 61 d .past in
-      walked (ahead n 1 e) Fine (first (judge (sideAt key kind num marked i) 11 (at i)) (judge (sideAt key kind num marked d) 11 (at d)))
+      walked (ahead n 1 e) Fine Fine (first (judge (sideAt key kind num marked i) 11 (at i)) (judge (sideAt key kind num marked d) 11 (at d)))
 
   unfoldable pub sidesAt : ℕ → List ℕ → Verdict → ℕ → Walked
   unfolding twoSides
-  sidesAt zero marked v i = walked i Fine v
+  sidesAt zero marked v i = walked i Fine Fine v
   sidesAt (suc f) marked v i =
       let c = twoSides marked (ahead n 1 i) in
-      cond (eqb (key i) 2) (walked i Fine v) (sidesAt f marked (first v (c .uses)) (c .past))
+      cond (eqb (key i) 2) (walked i Fine Fine v) (sidesAt f marked (first v (c .uses)) (c .past))
 
 -- "12 N, W or T too large": val gives the value of a numeral
 module _ (at val : ℕ → ℕ) (n : ℕ) where
@@ -100,7 +100,7 @@ module _ (key kind at : ℕ → ℕ) (n : ℕ) (runs : Bool) (mkey mkind : ℕ �
   unfolding inputsAt
   tensAt p =
       let ins = inputsAt key kind at n runs mkey mkind m n p true Fine 4 in
-      walked (ins .past) Fine (first (judge (ins .fits) 10 (at 3)) (ins .uses))
+      walked (ins .past) Fine Fine (first (judge (ins .fits) 10 (at 3)) (ins .uses))
 
 -- 11 whole: the inputs end at a; inputs and output stand from 4 to before `end`, and "K is 1 to 999"
 module _ (key kind num at : ℕ → ℕ) (n : ℕ) (runs : Bool) where

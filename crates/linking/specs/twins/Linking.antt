@@ -6,7 +6,6 @@ use mathlib.Core.List.{List}
 use lib.Dec.{eqb, ltb}
 use lib.ListN.{length, getD, set, replicate}
 use Rattle.linking.specs.declared.code.Link.{Link}
-use Rattle.linking.specs.declared.names.Bound.{Bound}
 use Rattle.linking.specs.twins.Code.{link, withLink}
 
 -- k tokens on
@@ -27,21 +26,29 @@ pub record Linked : Type 0 where
 abbrev pub linked : List ℕ → List ℕ → Linked
 linked names code = record { names = names; code = code }
 
+-- how many names are in reach, and those
 pub record NamesLeft : Type 0 where
-  pub bound : Bound
-  pub names : List ℕ
-
-abbrev pub namesLeft : Bound → List ℕ → NamesLeft
-namesLeft b names = record { bound = b; names = names }
-
--- how many names are in reach, and the two storages
-pub record LinksLeft : Type 0 where
   pub used : ℕ
   pub names : List ℕ
-  pub code : List ℕ
 
-abbrev pub linksLeft : ℕ → List ℕ → List ℕ → LinksLeft
-linksLeft used names code = record { used = used; names = names; code = code }
+abbrev pub namesLeft : ℕ → List ℕ → NamesLeft
+namesLeft used names = record { used = used; names = names }
+
+-- the name at i behind those in reach: "may no longer be one already in reach" (02, request 1)
+unfoldable pub pushedName : ℕ → ℕ → List ℕ → NamesLeft
+pushedName used i names = cond (ltb used 144) (namesLeft (used + 1) (set names used i)) (namesLeft used names)
+
+-- "The true branch of `cons?` has its two xe, the false branch its xa": they stand from h on
+unfoldable pub trueNames : ℕ → ℕ → ℕ → List ℕ → NamesLeft
+trueNames used mark h names = cond (eqb mark 4) (namesLeft used names) (let w = pushedName used h names in pushedName (w .used) (on h 1) (w .names))
+
+unfoldable pub falseNames : ℕ → ℕ → ℕ → List ℕ → NamesLeft
+falseNames used mark h names = cond (eqb mark 4) (namesLeft used names) (pushedName used (on h 2) names)
+
+-- parameters, `left` of them from i on
+unfoldable pub parametersNamed : ℕ → ℕ → ℕ → List ℕ → NamesLeft
+parametersNamed zero i used names = namesLeft used names
+parametersNamed (suc left) i used names = let w = pushedName used i names in parametersNamed left (i + 1) (w .used) (w .names)
 
 -- the index of the token that names the definition with the name x, of `left` from number j on
 unfoldable pub headFrom : List ℕ → List ℕ → ℕ → ℕ → ℕ → ℕ
@@ -89,34 +96,6 @@ module _ (marks nums : List ℕ) where
   abbrev pub placeOf : List ℕ → ℕ → ℕ → ℕ
   placeOf names used i = placeFrom names (min used 144) 0 i
 
-  abbrev pub bound : ℕ → ℕ → Bound
-  bound place used = record { place = place; used = used }
-
-  -- a name that is in reach keeps its place, another one comes behind
-  unfoldable pub boundName : ℕ → ℕ → List ℕ → NamesLeft
-  boundName used i names =
-      let p = placeOf names used i in
-      cond (ltb p used) (namesLeft (bound p used) names)
-      (cond (ltb used 144) (namesLeft (bound used (used + 1)) (set names used i)) (namesLeft (bound p used) names))
-
-  unfoldable pub boundLink : ℕ → ℕ → List ℕ → List ℕ → LinksLeft
-  boundLink used i names code =
-      let w = boundName used i names in
-      linksLeft (w .bound .used) (w .names) (withLink i (link 2 (w .bound .place % 65536) 0 (on i 1 % 65536)) code)
-
-  -- "The true branch of `cons?` has its two xe, the false branch its xa": they stand from h on
-  unfoldable pub trueNames : ℕ → ℕ → ℕ → List ℕ → List ℕ → LinksLeft
-  trueNames used mark h names code =
-      cond (eqb mark 4) (linksLeft used names code) (let w = boundLink used h names code in boundLink (w .used) (on h 1) (w .names) (w .code))
-
-  unfoldable pub falseNames : ℕ → ℕ → ℕ → List ℕ → List ℕ → LinksLeft
-  falseNames used mark h names code = cond (eqb mark 4) (linksLeft used names code) (boundLink used (on h 2) names code)
-
-  -- parameters, `left` of them from i on
-  unfoldable pub parametersLinked : ℕ → ℕ → ℕ → List ℕ → List ℕ → LinksLeft
-  parametersLinked zero i used names code = linksLeft used names code
-  parametersLinked (suc left) i used names code = let w = boundLink used i names code in parametersLinked left (i + 1) (w .used) (w .names) (w .code)
-
   module _ (ends : List ℕ) where
     -- a token of an expression
     unfoldable pub tokenLink : List ℕ → ℕ → ℕ → Link
@@ -139,10 +118,10 @@ module _ (marks nums : List ℕ) where
         let l = ifLink marks ends i in
         let h = getD ends (on i 4) 0 in
         let c = rangeLinked (s .names) used (l .first - on i 4) (on i 4) (withLink i l (s .code)) in
-        let a = trueNames used (l .mark) h (s .names) c in
-        let t = again (a .used) (l .first) (linked (a .names) (a .code)) in
-        let b = falseNames used (l .mark) h (t .names) (t .code) in
-        again (b .used) (l .second) (linked (b .names) (b .code))
+        let a = trueNames used (l .mark) h (s .names) in
+        let t = again (a .used) (l .first) (linked (a .names) c) in
+        let b = falseNames used (l .mark) h (t .names) in
+        again (b .used) (l .second) (linked (b .names) (t .code))
 
     abbrev pub range : ℕ → ℕ → Linked → Linked
     range used i s = linked (s .names) (rangeLinked (s .names) used (getD ends i 0 - i) i (s .code))
@@ -165,8 +144,8 @@ module _ (marks nums : List ℕ) where
       unfoldable pub definitionLinked : ℕ → Linked → Linked
       definitionLinked h s =
           let close = closingAt marks (on h 2) in
-          let w = parametersLinked (close - on h 2) (on h 2) 0 (s .names) (s .code) in
-          termLinked 63 (w .used) (on close 1) (linked (w .names) (w .code))
+          let w = parametersNamed (close - on h 2) (on h 2) 0 (s .names) in
+          termLinked 63 (w .used) (on close 1) (linked (w .names) (s .code))
 
       unfoldable pub definitionsLinked : ℕ → ℕ → Linked → Linked
       definitionsLinked zero j s = s

@@ -1,13 +1,12 @@
 -- `answers` ends with the text: the next line starts behind the end of this one.
 use Prim.Native.Nat.{_-_}
-use mathlib.Core.Path.{_≡_}
 use lib.ListN.{length}
 use borrow.Author.Needs.{needs}
 use Rattle.meet.proofs.answers.Statement.{statement}
 use Rattle.meet.proofs.answers.Tie as tie
 
 abbrev Inv-loop : tie.InvT-loop
-Inv-loop text page₀ heap₀ frame₀ k₀ from₀ page heap frame k from = length page ≡ length page₀
+Inv-loop text page₀ heap₀ frame₀ k₀ from₀ page heap frame k from = Unit {0}
 
 abbrev μ-loop : tie.MeasureT-loop
 μ-loop text page₀ heap₀ frame₀ k₀ from₀ page heap frame k from = length text - from
@@ -39,9 +38,6 @@ loop-less c = search needs
 loop-again : tie.Need-loop-again Inv-loop μ-loop
 loop-again c = search needs
 
-same-length : tie.Need-same-length Inv-loop μ-loop
-same-length c = search needs
-
 returns : tie.Need-returns Inv-loop μ-loop
 returns c = search needs
 
@@ -60,5 +56,4 @@ answers-spec =
     add-from
     loop-less
     loop-again
-    same-length
     returns)

@@ -12,13 +12,14 @@ use Rattle.sets.specs.declared.fill.Filled.the-variants.{Done, Over as FilledOv
 use Rattle.runs.specs.twins.Runs.{appendedPair}
 use Rattle.heap.specs.twins.Contracted.{contractedEntries}
 use Rattle.heap.specs.twins.Moving.{Move, moved}
+use Rattle.heap.specs.twins.Entries.{pushed}
 use Rattle.heap.specs.declared.entry.Pushed.{Pushed}
 use Rattle.heap.specs.declared.entry.Pushed.the-variants.{Done as PushedDone, Full}
 use Rattle.heap.specs.declared.configuration.Configuration.{Configuration}
 use Rattle.heap.specs.declared.configuration.Moved.{Moved}
 use Rattle.heap.specs.declared.configuration.Moved.the-variants.{On, Over}
 use Rattle.linking.specs.twins.Code.{linkAt}
-use Rattle.looking.specs.twins.Taking.{placedAs, partsBound, atomBound}
+use Rattle.looking.specs.twins.Taking.{placedAs, partsBound}
 
 unfoldable pub filledOn : Configuration → Filled → Moved
 filledOn c (Done k) = On (placedAs c (c .entries) k (c .place) (c .counter))
@@ -34,13 +35,13 @@ boundContracted c x used place next Full h f = moved Over h f
 
 unfoldable pub pairMade : List ℕ → Configuration → ℕ → ℕ → ℕ → ℕ → List ℕ → List ℕ → Move
 pairMade code c x head tail next h f =
-    let w = partsBound code c (c .used + 1) (c .used + 2) (c .used + 3) f in
+    let w = partsBound (c .entries) (c .used + 1) (c .used + 2) (c .used + 3) f in
     cond (ltb 65532 (c .used)) (moved Over h f)
     (boundContracted c x (c .used + 3) (linkAt code (c .place) .first) next (w .answer) (appendedPair head tail (c .used) h .cells) (w .frame))
 
 unfoldable pub atomMade : List ℕ → Configuration → ℕ → ℕ → ℕ → List ℕ → List ℕ → Move
 atomMade code c x atom next h f =
-    let w = atomBound code c (c .used) (c .used + 1) f in
+    let w = pushed (c .entries) 0 (c .used) (c .used + 1) f in
     cond (ltb 65534 (c .used)) (moved Over h f) (boundContracted c x (c .used + 1) (linkAt code (c .place) .second) next (w .answer) (set h (c .used) atom) (w .frame))
 
 -- the code of a variable

@@ -4,9 +4,9 @@ use mathlib.Core.Bool.{true}
 use mathlib.Core.List.{List}
 use lib.ListN.{take, replicate}
 use Rattle.listing.specs.Text.{printRefusal}
-use Rattle.answers.specs.RunNumbers.{numberOf, letterOf, offsetOf}
-use Rattle.answers.specs.declared.run.Answer.{Answer}
-use Rattle.answers.specs.declared.run.Answer.the-variants.{Value, Over, NotWithin, Program, Job, Short}
+use Rattle.run_answers.specs.RunNumbers.{numberOf, letterOf, offsetOf}
+use Rattle.run_answers.specs.declared.run.Answer.{Answer}
+use Rattle.run_answers.specs.declared.run.Answer.the-variants.{Value, Over, NotWithin, Program, Job, Short}
 use Rattle.writer.specs.declared.outcome.Outcome.{Outcome}
 use Rattle.writer.specs.declared.outcome.Outcome.the-variants.{Value as ValueOf, Over as OverOf, NotWithin as NotWithinOf}
 use Rattle.print.specs.twins.Names.{textNames}

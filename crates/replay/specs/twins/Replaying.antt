@@ -9,9 +9,9 @@ use Rattle.tracing.specs.twins.Asking.{askedAt, isCall, takenAs}
 use Rattle.trails.specs.twins.TrailCells.{takenAt, pendingAt}
 use Rattle.saving.specs.declared.head.Node.{Node}
 use Rattle.saving.specs.twins.Saving.{SaveLeft, saveLeft, savedTo, LoadLeft, loaded}
-use Rattle.replay.specs.twins.Positions.{afterStep}
+use Rattle.positions.specs.twins.Positions.{afterStep, takenUp}
 use Rattle.replay.specs.twins.Rooms.{madeRoom}
-use Rattle.replay.specs.declared.position.Position.{Position}
+use Rattle.positions.specs.declared.position.Position.{Position}
 
 abbrev pub isThere : List ℕ → Node → ℕ → Bool
 isThere code n last = cond (eqb (linkAt code (n .at .place) .mark) 3) false (leb last (n .depth))
@@ -52,10 +52,7 @@ followFrom code path base last zero p h f q saved = replayLeft p h f q saved
 followFrom code path base last (suc left) p h f q saved =
     cond (isThere code (p .node) last) (replayLeft p h f q saved) (onward (followFrom code path base last left) (followStep code path base p h f q saved))
 
-abbrev pub keptTop : ℕ → ℕ → ℕ → ℕ
-keptTop from top base = cond (leb top base) base from
-
 unfoldable pub broughtBack : List ℕ → List ℕ → ℕ → ℕ → ℕ → ℕ → List ℕ → List ℕ → List ℕ → List ℕ → ReplayLeft
 broughtBack code path base last limit top h f q saved =
     let w = loaded saved top f q in
-    followFrom code path base last limit (record { node = w .back .node; top = keptTop (w .back .top) top base }) h (w .frame) (w .q) saved
+    followFrom code path base last limit (takenUp (w .back) top base) h (w .frame) (w .q) saved

@@ -1,23 +1,13 @@
 -- Room for a transition: what each function of room.rt answers and leaves.
-use Prim.Native.Nat.{ℕ, _+_, min}
-use mathlib.Core.Bool.{Bool, true, cond}
+use Prim.Native.Nat.{ℕ}
+use mathlib.Core.Bool.{cond}
 use mathlib.Core.List.{List}
-use lib.Dec.{ltb}
 use Rattle.compaction.specs.twins.Compacting.{compacted}
-use Rattle.heap.specs.declared.configuration.Configuration.{Configuration}
 use Rattle.saving.specs.twins.Heads.{usedAt}
 use Rattle.saving.specs.twins.Saving.{olderUsed}
-use Rattle.replay.specs.twins.Positions.{positioned}
-use Rattle.replay.specs.declared.position.Position.{Position}
-
-abbrev pub isFull : ℕ → Bool
-isFull used = ltb 40959 used
-
-abbrev pub isTight : ℕ → ℕ → Bool
-isTight used floor = cond (isFull used) true (ltb (min floor 65535 + 8192) used)
-
-abbrev pub withUsed : Configuration → ℕ → Configuration
-withUsed c used = record { inputs = c .inputs; outputs = c .outputs; entries = c .entries; used = used; neqs = c .neqs; place = c .place; counter = c .counter }
+use Rattle.positions.specs.twins.Positions.{positioned}
+use Rattle.positions.specs.twins.Used.{isFull, isTight, withUsed}
+use Rattle.positions.specs.declared.position.Position.{Position}
 
 unfoldable pub floorTop : ℕ → ℕ → ℕ → List ℕ → ℕ
 floorTop used top base saved = cond (isFull used) (olderUsed saved top base) top

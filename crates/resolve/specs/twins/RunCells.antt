@@ -16,8 +16,8 @@ use Rattle.resolve.specs.RunAnswer.{RunLeft}
 use Rattle.reading.specs.twins.BothCells.{BothAnswer, bothOver}
 use Rattle.reading.specs.declared.both.Both.{Both}
 use Rattle.reading.specs.declared.both.Both.the-variants.{Accepted, Program as OfProgram, Job as OfJob, Short as TooShort}
-use Rattle.answers.specs.declared.run.Answer.{Answer}
-use Rattle.answers.specs.declared.run.Answer.the-variants.{Value, Over, NotWithin, Program, Job, Short}
+use Rattle.run_answers.specs.declared.run.Answer.{Answer}
+use Rattle.run_answers.specs.declared.run.Answer.the-variants.{Value, Over, NotWithin, Program, Job, Short}
 
 abbrev pub answerRan : Ran → Answer
 answerRan (RanValue s n) = Value s n

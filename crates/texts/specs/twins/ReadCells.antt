@@ -70,7 +70,7 @@ ifRoomy false marks nums ats symbols names w = untouched marks nums ats symbols 
 abbrev pub programCut : List ℕ → List ℕ → List ℕ → List ℕ → List ℕ → List ℕ → State
 programCut text marks nums ats symbols names = cutFrom false text text 4097 (starting marks nums ats symbols names 0)
 
--- "Each: 1; 2; then 3, 4, 5 at the earliest token. Program: 6; then 7, 8, 9 at the earliest token"
+-- "Each: 1; 2; then 3, 4, 5 at the earliest token. Program: 6; then 7, 8, 9 at the earliest token"; 13 "after 6 and before 7, 8 and 9" (02, request 1)
 unfoldable pub programCells : List ℕ → List ℕ → List ℕ → List ℕ → List ℕ → List ℕ → ReadAnswer
 unfolding cutFrom stored.programAt
 programCells text marks nums ats symbols names =

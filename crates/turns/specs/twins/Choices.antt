@@ -1,10 +1,10 @@
 -- The decisions of a turn by value: what each function of choice.rt answers.
 use Prim.Native.Nat.{ℕ}
 use mathlib.Core.Bool.{Bool, true, false, cond}
-use lib.Dec.{leb, eqb}
+use lib.Dec.{leb, ltb, eqb}
 use Rattle.heap.specs.declared.configuration.Branches.{Branches}
 use Rattle.saving.specs.declared.head.Node.{Node}
-use Rattle.replay.specs.declared.position.Bounds.{Bounds}
+use Rattle.positions.specs.declared.position.Bounds.{Bounds}
 use Rattle.turns.specs.declared.choice.Way.{Way}
 use Rattle.turns.specs.declared.choice.Way.the-variants.{Call, Choice, Leaf}
 use Rattle.turns.specs.declared.found.Found.{Found}
@@ -20,6 +20,9 @@ isResult m = cond (eqb m 3) false (cond (eqb m 4) false (cond (eqb m 5) false tr
 
 abbrev pub isDeep : Bounds → Node → Bool
 isDeep b n = leb (b .steps) (n .steps)
+
+abbrev pub isOver : ℕ → Bool
+isOver nodes = ltb 4096 nodes
 
 abbrev pub isSpent : ℕ → Found → Bool
 isSpent walk f = leb walk (f .count)

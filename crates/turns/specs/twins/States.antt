@@ -4,8 +4,8 @@ use Rattle.heap.specs.declared.configuration.Moved.{Moved}
 use Rattle.heap.specs.declared.configuration.Moved.the-variants.{On as MovedOn, Contradiction, Over as MovedOver}
 use Rattle.lines.specs.declared.end.Ended.{Ended}
 use Rattle.lines.specs.declared.end.Ended.the-variants.{Going, Over as EndedOver, Full as EndedFull}
-use Rattle.replay.specs.twins.Positions.{movedFrom}
-use Rattle.replay.specs.declared.position.Position.{Position}
+use Rattle.positions.specs.twins.Positions.{movedFrom}
+use Rattle.positions.specs.declared.position.Position.{Position}
 use Rattle.turns.specs.twins.Finding.{counted, cutOff, withLines}
 use Rattle.turns.specs.declared.found.Found.{Found}
 use Rattle.turns.specs.declared.found.Ending.the-variants.{Over, Full}

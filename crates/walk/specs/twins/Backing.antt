@@ -5,9 +5,9 @@ use mathlib.Core.List.{List}
 use lib.Dec.{eqb}
 use Rattle.tracing.specs.twins.Asking.{askedAt}
 use Rattle.trails.specs.twins.TrailCells.{PathLeft, backtracked}
-use Rattle.replay.specs.twins.Positions.{atDepth}
+use Rattle.positions.specs.twins.Positions.{atDepth}
 use Rattle.replay.specs.twins.Replaying.{ReplayLeft, broughtBack}
-use Rattle.replay.specs.declared.position.Bounds.{Bounds}
+use Rattle.positions.specs.declared.position.Bounds.{Bounds}
 use Rattle.turns.specs.twins.States.{stateAt}
 use Rattle.turns.specs.declared.found.Found.{Found}
 use Rattle.turns.specs.declared.found.Ending.the-variants.{Done}

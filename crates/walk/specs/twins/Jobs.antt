@@ -2,7 +2,7 @@
 use Prim.Native.Nat.{ℕ}
 use mathlib.Core.Bool.{false, cond}
 use mathlib.Core.List.{List}
-use lib.Dec.{eqb, ltb}
+use lib.Dec.{eqb}
 use lib.ListN.{replicate}
 use Rattle.syntax.specs.declared.job_ends.JobEnds.{JobEnds}
 use Rattle.syntax.specs.declared.numerals.Numerals.{Numerals}
@@ -14,8 +14,9 @@ use Rattle.initial.specs.declared.begin.Begun.the-variants.{On, None, Over as B
 use Rattle.saving.specs.twins.Saving.{SaveLeft, savedTo}
 use Rattle.saving.specs.declared.head.Node.{Node}
 use Rattle.constants.specs.twins.Laying.{constantsLaid}
-use Rattle.replay.specs.twins.Rooms.{withUsed}
-use Rattle.replay.specs.declared.position.Bounds.{Bounds}
+use Rattle.positions.specs.twins.Used.{withUsed}
+use Rattle.positions.specs.declared.position.Bounds.{Bounds}
+use Rattle.turns.specs.twins.Choices.{isOver}
 use Rattle.turns.specs.twins.Finding.{walked, nothingFound, counted, cutOff}
 use Rattle.turns.specs.twins.States.{stateAt}
 use Rattle.walk.specs.twins.Walking.{WalkedLeft, walkedOn}
@@ -49,7 +50,7 @@ walkFirst code c k h f q a = walkSaved code c k h f q a (savedTo f q (firstNode 
 
 unfoldable pub walkBegun : List ℕ → Configuration → Numerals → List ℕ → List ℕ → List ℕ → List ℕ → JobLeft
 walkBegun code c k h f q a =
-    cond (ltb 4096 (keptNodes (c .entries) (c .neqs) f)) (jobLeft (walked Over nothingFound) a)
+    cond (isOver (keptNodes (c .entries) (c .neqs) f)) (jobLeft (walked Over nothingFound) a)
     (cond (eqb (k .steps) 0) (jobLeft (walked Done (cutOff nothingFound)) a) (cond (eqb (k .walk) 0) (jobLeft (walked Spent nothingFound) a) (walkFirst code c k h f q a)))
 
 abbrev pub onBegun : List ℕ → ℕ → Numerals → List ℕ → BegunLeft → Begun → JobLeft

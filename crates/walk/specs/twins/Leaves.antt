@@ -4,7 +4,7 @@ use mathlib.Core.Bool.{cond}
 use mathlib.Core.List.{List}
 use Rattle.linking.specs.twins.Code.{linkAt}
 use Rattle.lines.specs.twins.Ends.{EndLeft, metEnd}
-use Rattle.replay.specs.declared.position.Bounds.{Bounds}
+use Rattle.positions.specs.declared.position.Bounds.{Bounds}
 use Rattle.turns.specs.twins.Choices.{isResult}
 use Rattle.turns.specs.twins.States.{afterEnd, cutAt}
 use Rattle.turns.specs.declared.state.State.{State}

@@ -13,10 +13,10 @@ use Rattle.calls.specs.twins.Calls.{calledTo}
 use Rattle.tracing.specs.twins.Asking.{AskLeft, askedAt, branchesAsked, takenAs}
 use Rattle.tracing.specs.declared.ask.Asked.{Asked}
 use Rattle.trails.specs.twins.TrailCells.{pushed}
-use Rattle.replay.specs.twins.Positions.{atDepth}
+use Rattle.positions.specs.twins.Positions.{atDepth}
 use Rattle.replay.specs.twins.Replaying.{savedIf}
-use Rattle.replay.specs.declared.position.Position.{Position}
-use Rattle.replay.specs.declared.position.Bounds.{Bounds}
+use Rattle.positions.specs.declared.position.Position.{Position}
+use Rattle.positions.specs.declared.position.Bounds.{Bounds}
 use Rattle.turns.specs.twins.Choices.{isBoth, firstBranch, isSpent}
 use Rattle.turns.specs.twins.States.{stateAt, afterMove}
 use Rattle.turns.specs.declared.found.Ending.the-variants.{Spent}

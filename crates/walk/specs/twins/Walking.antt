@@ -4,7 +4,7 @@ use mathlib.Core.List.{List}
 use Rattle.linking.specs.twins.Code.{linkAt}
 use Rattle.saving.specs.declared.head.Node.{Node}
 use Rattle.replay.specs.twins.Rooms.{RoomLeft, madeRoom}
-use Rattle.replay.specs.declared.position.Bounds.{Bounds}
+use Rattle.positions.specs.declared.position.Bounds.{Bounds}
 use Rattle.turns.specs.twins.Finding.{walked}
 use Rattle.turns.specs.twins.Choices.{wayOn}
 use Rattle.turns.specs.twins.States.{stateAt}

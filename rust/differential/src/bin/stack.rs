@@ -32,6 +32,12 @@ fn nested(times: usize, open: &str, middle: &str, close: &str) -> String {
     format!("{}{middle}{}", open.repeat(times), close.repeat(times))
 }
 
+// Conditionals one in the other, each with names of its own (13): `before` stands before the next, `behind` behind it.
+fn conditionals(times: usize, before: &str, middle: &str, behind: &str) -> String {
+    let open: String = (0..times).map(|i| format!("(if (cons? e.x e.h{i} e.t{i} a.p{i}) {before}")).collect();
+    format!("{open}{middle}{}", behind.repeat(times))
+}
+
 fn body(term: &str) -> String {
     format!("(define f [e.x] {term})")
 }
@@ -42,18 +48,17 @@ fn job(input: &str, neq: &str) -> String {
 
 // "64 brackets open together": one is the definition's, one the condition's or the job's own.
 fn programs() -> Vec<Case> {
-    let split = "(if (cons? e.x e.h e.t a.p) ";
     let equal = "(if (eqa? 'A 'B) ";
     let parameters: String = (0..16).map(|i| format!("e.p{i} ")).collect();
     let many: String = (0..64).map(|i| format!("(define f{i} [{parameters}] (call f{i} [{parameters}]))\n")).collect();
     let one = |name, program| case(name, program, JOB.to_string());
     vec![
         one("4,084 arguments", format!("(define f [] (call f [{}]))", "'A ".repeat(4084))),
-        one("62 conditionals, each in the true branch", body(&nested(62, split, "'A", " 'B)"))),
-        one("62 conditionals, each in the false branch", body(&nested(62, &format!("{split}'B "), "'A", ")"))),
+        one("62 conditionals, each in the true branch", body(&conditionals(62, "", "'A", " 'B)"))),
+        one("62 conditionals, each in the false branch", body(&conditionals(62, "'B ", "'A", ")"))),
         one("62 comparisons, each in the true branch", body(&nested(62, equal, "'A", " 'B)"))),
         one("62 comparisons, each in the false branch", body(&nested(62, &format!("{equal}'B "), "'A", ")"))),
-        one("60 conditionals around a call", body(&nested(60, split, "(call f [(cons e.x e.x)])", " 'B)"))),
+        one("60 conditionals around a call", body(&conditionals(60, "", "(call f [(cons e.x e.x)])", " 'B)"))),
         one("63 pairs, each in the head", body(&nested(63, "(cons ", "'A", " 'B)"))),
         one("63 pairs, each in the tail", body(&nested(63, "(cons 'B ", "'A", ")"))),
         one("61 pairs in an argument", body(&format!("(call f [{}])", nested(61, "(cons ", "'A", " 'B)")))),

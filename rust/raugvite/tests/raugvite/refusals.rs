@@ -18,6 +18,7 @@ fn programs() -> Vec<(String, usize, usize)> {
         ("(define f [e.x] (call g [e.x]))".into(), 7, 22),
         ("(define f [e.x] (if (eqa? e.x 'A) 'A 'B))".into(), 8, 26),
         ("(define f [e.x]\n e.y)".into(), 9, 17),
+        ("(define f [e.x] (if (cons? e.x e.h e.x a.p) e.h 'B))".into(), 13, 35),
     ]
 }
 

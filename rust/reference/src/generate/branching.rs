@@ -7,9 +7,9 @@ const PROGRAMS: [(&str, usize); 5] = [
     // Is the second among the members of the first?
     (
         "(define member [e.l e.k] (if (cons? e.k e.x e.y a.k) 'Bad (call look [e.l a.k])))
-         (define look [e.l a.k] (if (cons? e.l e.h e.l a.n)
-           (if (cons? e.h e.x e.y a.h) (call look [e.l a.k])
-             (if (eqa? a.h a.k) (cons 'Yes e.l) (call look [e.l a.k]))) 'No))",
+         (define look [e.l a.k] (if (cons? e.l e.h e.t a.n)
+           (if (cons? e.h e.x e.y a.h) (call look [e.t a.k])
+             (if (eqa? a.h a.k) (cons 'Yes e.t) (call look [e.t a.k]))) 'No))",
         2,
     ),
     // Two trees compared with a list of what is left to do.
@@ -20,30 +20,30 @@ const PROGRAMS: [(&str, usize); 5] = [
              (call trees [e.xh e.yh (cons (cons e.xt e.yt) e.k)]) 'No)
            (if (cons? e.y e.yh e.yt a.y) 'No
              (if (eqa? a.x a.y) (call rest [e.k]) 'No))))
-         (define rest [e.k] (if (cons? e.k e.p e.k a.n)
-           (if (cons? e.p e.x e.y a.n) (call trees [e.x e.y e.k]) 'Bad) 'Yes))",
+         (define rest [e.k] (if (cons? e.k e.p e.r a.n)
+           (if (cons? e.p e.x e.y a.n) (call trees [e.x e.y e.r]) 'Bad) 'Yes))",
         2,
     ),
     // The first reversed before the second.
     (
-        "(define back [e.x e.y] (if (cons? e.x e.h e.x a.n)
-           (call back [e.x (cons e.h e.y)]) (cons a.n e.y)))",
+        "(define back [e.x e.y] (if (cons? e.x e.h e.t a.n)
+           (call back [e.t (cons e.h e.y)]) (cons a.n e.y)))",
         2,
     ),
     // Every neighbour different: many non-equalities.
     (
-        "(define main [e.l] (if (cons? e.l e.h e.l a.n)
-           (if (cons? e.h e.x e.y a.h) 'Bad (call next [a.h e.l e.l])) 'Yes))
-         (define next [a.h e.l e.m] (if (cons? e.m e.g e.m a.n)
+        "(define main [e.l] (if (cons? e.l e.h e.t a.n)
+           (if (cons? e.h e.x e.y a.h) 'Bad (call next [a.h e.t e.t])) 'Yes))
+         (define next [a.h e.l e.m] (if (cons? e.m e.g e.r a.n)
            (if (cons? e.g e.x e.y a.g) 'Bad (if (eqa? a.g a.h) (cons 'Twice a.h)
-             (call next [a.h e.l e.m]))) (call main [e.l])))",
+             (call next [a.h e.l e.r]))) (call main [e.l])))",
         1,
     ),
     // A mirror of a tree's left edge, which builds its answer.
     (
         "(define main [e.t e.k] (if (cons? e.t e.l e.r a.p)
            (call main [e.l (cons e.r e.k)])
-           (if (cons? e.k e.h e.t a.q) (cons a.p (cons e.h e.t))
+           (if (cons? e.k e.h e.u a.q) (cons a.p (cons e.h e.u))
              (if (eqa? a.q a.p) 'Same (cons a.q a.p)))))",
         2,
     ),

@@ -89,11 +89,12 @@ const INSTEAD: [(&str, &[&str]); 3] =
 
 /// Keeps the grammar, as a rule, and breaks a rule of the checks.
 fn change_meaning(texts: &mut Texts, random: &mut Random) {
-    match random.below(10) {
+    match random.below(11) {
         0..=2 => {
             let (prefix, by) = *random.pick(&INSTEAD);
             replace(&mut texts.program, random, prefix, by)
         }
+        10 => rebind(&mut texts.program, random),
         3..=5 => {
             let (word, by) = *random.pick(&BEHIND_IN_PROGRAM);
             after(&mut texts.program, random, word, by)
@@ -141,6 +142,23 @@ fn after(tokens: &mut [String], random: &mut Random, word: &str, by: &[&str]) {
     let places: Vec<usize> = (1..tokens.len()).filter(|&i| tokens[i - 1] == word).collect();
     if !places.is_empty() {
         tokens[*random.pick(&places)] = random.pick(by).to_string();
+    }
+}
+
+/// Lets a `cons?` bind a name that stands before it in its definition, so
+/// mostly one that is in reach.
+pub fn rebind(tokens: &mut [String], random: &mut Random) {
+    let binds = |w: &[String]| w[0].starts_with("e.") && w[1].starts_with("e.") && w[2].starts_with("a.") && w[3] == ")";
+    let places: Vec<usize> = tokens.windows(4).enumerate().filter(|(_, w)| binds(w)).map(|(i, _)| i).collect();
+    if places.is_empty() {
+        return;
+    }
+    let at = *random.pick(&places);
+    let start = tokens[..at].iter().rposition(|t| t == "define").unwrap_or(0);
+    let bound = at + random.below(3);
+    let earlier: Vec<String> = tokens[start..at].iter().filter(|t| t.starts_with(&tokens[bound][..2])).cloned().collect();
+    if !earlier.is_empty() {
+        tokens[bound] = random.pick(&earlier).clone();
     }
 }
 

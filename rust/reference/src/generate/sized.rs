@@ -23,11 +23,11 @@ fn configurations(random: &mut Random) -> Texts {
     let end = *random.pick(&["e.x", "'A", "(cons e.x 'A)", "(cons e.x e.x)", "e.m"]);
     let check = match random.chance(50) {
         true => end.to_string(),
-        false => format!("(if (cons? e.x e.h e.t a.p) {end} 'B)"),
+        false => format!("(if (cons? e.x e.h e.t a.q) {end} 'B)"),
     };
     let program = format!(
-        "(define f [e.n e.x e.m] (if (cons? e.n e.h e.n a.p)
-           (call f [e.n (cons e.x e.x) e.m]) {check}))"
+        "(define f [e.n e.x e.m] (if (cons? e.n e.h e.r a.p)
+           (call f [e.r (cons e.x e.x) e.m]) {check}))"
     );
     let count = list("'I", random.between(8, 11), "'O");
     let padding = list("'M", random.below(60), "'O");
@@ -39,11 +39,11 @@ fn configurations(random: &mut Random) -> Texts {
 
 /// Several lines, each with a tree of some hundred or thousand nodes.
 fn lines(random: &mut Random) -> Texts {
-    let program = "(define f [e.n e.x e.l] (if (cons? e.n e.h e.n a.p)
-           (call f [e.n (cons e.x e.x) e.l]) (call g [e.x e.l])))
-         (define g [e.x e.l] (if (cons? e.l e.h e.l a.p)
+    let program = "(define f [e.n e.x e.l] (if (cons? e.n e.h e.r a.p)
+           (call f [e.r (cons e.x e.x) e.l]) (call g [e.x e.l])))
+         (define g [e.x e.l] (if (cons? e.l e.h e.r a.p)
            (if (cons? e.h e.y e.z a.h) (cons e.x 'A)
-             (if (eqa? a.h 'A) (cons e.x a.h) (call g [e.x e.l]))) e.x))";
+             (if (eqa? a.h 'A) (cons e.x a.h) (call g [e.x e.r]))) e.x))";
     let count = list("'I", random.between(5, 9), "'O");
     let seed = *random.pick(&["'A", "?a1", "(cons 'A 'B)"]);
     let members = list("?e5", 1, &list("?e6", random.between(0, 20), "?e7"));

@@ -3,8 +3,10 @@
 use super::{Random, Texts};
 
 const SYMBOLS: [&str; 6] = ["'A", "'B", "'C", "'nil", "'7", "'07"];
-const E_NAMES: [&str; 6] = ["e.x", "e.y", "e.z", "e.h", "e.t", "e.p"];
-const A_NAMES: [&str; 5] = ["a.p", "a.q", "a.x", "a.h", "a.longestname00016"];
+// More than are ever in reach together: 4 parameters, and those of 5 branches.
+const E_NAMES: [&str; 16] =
+    ["e.x", "e.y", "e.z", "e.h", "e.t", "e.p", "e.q", "e.r", "e.s", "e.u", "e.v", "e.w", "e.l", "e.m", "e.n", "e.k"];
+const A_NAMES: [&str; 10] = ["a.p", "a.q", "a.x", "a.h", "a.longestname00016", "a.y", "a.z", "a.n", "a.m", "a.k"];
 const FUNCTIONS: [&str; 6] = ["main", "f", "if", "42", "G", "longestname00016"];
 
 /// A function's name with its parameters.
@@ -35,15 +37,19 @@ fn functions(random: &mut Random) -> Vec<Function> {
 fn parameters(random: &mut Random) -> Vec<&'static str> {
     let mut chosen: Vec<&'static str> = Vec::new();
     for _ in 0..random.below(5) {
-        let name = match random.chance(70) {
-            true => *random.pick(&E_NAMES),
-            false => *random.pick(&A_NAMES),
-        };
-        if !chosen.contains(&name) {
-            chosen.push(name);
-        }
+        chosen.push(match random.chance(70) {
+            true => new_name(random, &E_NAMES, &chosen),
+            false => new_name(random, &A_NAMES, &chosen),
+        });
     }
     chosen
+}
+
+/// One of the first names that are not in reach, so that branches that do
+/// not see each other often share theirs.
+fn new_name(random: &mut Random, names: &[&'static str], reach: &[&'static str]) -> &'static str {
+    let free: Vec<&'static str> = names.iter().copied().filter(|name| !reach.contains(name)).take(4).collect();
+    *random.pick(&free)
 }
 
 fn is_atomic(variable: &str) -> bool {
@@ -87,12 +93,11 @@ impl Writer<'_> {
     fn cons(&mut self, reach: &[&'static str], depth: usize) -> String {
         let depth_of_subject = usize::from(self.random.chance(20));
         let subject = self.exp(reach, depth_of_subject);
-        let first = self.random.below(E_NAMES.len());
-        let second = (first + self.random.between(1, E_NAMES.len() - 1)) % E_NAMES.len();
-        let (head, tail) = (E_NAMES[first], E_NAMES[second]);
-        let atom = *self.random.pick(&A_NAMES);
-        let if_pair: Vec<&str> = reach.iter().copied().chain([head, tail]).collect();
-        let if_atom: Vec<&str> = reach.iter().copied().chain([atom]).collect();
+        let head = new_name(self.random, &E_NAMES, reach);
+        let tail = new_name(self.random, &E_NAMES, &[reach, &[head]].concat());
+        let atom = new_name(self.random, &A_NAMES, reach);
+        let if_pair = [reach, &[head, tail]].concat();
+        let if_atom = [reach, &[atom]].concat();
         let yes = self.term(&if_pair, depth - 1);
         let no = self.term(&if_atom, depth - 1);
         format!("(if (cons? {subject} {head} {tail} {atom}) {yes} {no})")

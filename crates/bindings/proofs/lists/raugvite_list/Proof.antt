@@ -1,6 +1,6 @@
 use mathlib.Core.Path.{ap, _∙_}
 use Rattle.answers.specs.declared.list.Answer.{Answer}
-use Rattle.answers.specs.Numbers.{saidAfter}
+use Rattle.telling.specs.Numbers.{saidAfter}
 use Rattle.answers.specs.ListNumbers.{numberOf, saidOf}
 use Rattle.bindings.proofs.ToldLaws.{listing-of}
 use borrow.Author.Needs.{needs}
@@ -8,7 +8,7 @@ use Rattle.bindings.proofs.lists.raugvite_list.Statement.{statement}
 use Rattle.bindings.proofs.lists.raugvite_list.Tie as tie
 use Rattle.bindings.proofs.lists.raugvite_list.Reads as reads
 use Rattle.bindings.proofs.lists.raugvite_list.Lts as lts
-use Rattle.answers.proofs.list.tell.Reads as tell-reads
+use Rattle.telling.proofs.list.tell.Reads as tell-reads
 use Rattle.resolve.proofs.list.list.Reads as list-reads
 
 list-requires : tie.Need-list-requires

@@ -1,14 +1,14 @@
 use mathlib.Core.Path.{ap, _∙_}
-use Rattle.answers.specs.declared.run.Answer.{Answer}
-use Rattle.answers.specs.Numbers.{saidAfter}
-use Rattle.answers.specs.RunNumbers.{numberOf, saidOf}
+use Rattle.run_answers.specs.declared.run.Answer.{Answer}
+use Rattle.telling.specs.Numbers.{saidAfter}
+use Rattle.run_answers.specs.RunNumbers.{numberOf, saidOf}
 use Rattle.bindings.proofs.ToldLaws.{run-of}
 use borrow.Author.Needs.{needs}
 use Rattle.bindings.proofs.runs.raugvite_run.Statement.{statement}
 use Rattle.bindings.proofs.runs.raugvite_run.Tie as tie
 use Rattle.bindings.proofs.runs.raugvite_run.Reads as reads
 use Rattle.bindings.proofs.runs.raugvite_run.Lts as lts
-use Rattle.answers.proofs.run.tell.Reads as tell-reads
+use Rattle.telling.proofs.run.tell.Reads as tell-reads
 use Rattle.resolve.proofs.run.run.Reads as run-reads
 
 run-requires : tie.Need-run-requires

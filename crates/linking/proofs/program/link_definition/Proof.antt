@@ -4,7 +4,7 @@ use Rattle.linking.proofs.program.link_definition.Statement.{statement}
 use Rattle.linking.proofs.program.link_definition.Tie as tie
 use Rattle.linking.proofs.program.link_definition.Reads as reads
 use Rattle.linking.proofs.program.link_definition.Lts as lts
-use Rattle.linking.proofs.program.link_parameters.Reads as link-parameters-reads
+use Rattle.linking.proofs.program.push_parameters.Reads as push-parameters-reads
 use Rattle.linking.proofs.terms.closing.Reads as closing-reads
 use Rattle.linking.proofs.terms.link_term.Reads as link-term-reads
 use Rattle.linking.proofs.tokens.on.Reads as on-reads
@@ -15,8 +15,8 @@ on-requires c κs = search needs
 closing-requires : tie.Need-closing-requires
 closing-requires c κs = search needs
 
-link-parameters-requires : tie.Need-link-parameters-requires
-link-parameters-requires c κs = search needs
+push-parameters-requires : tie.Need-push-parameters-requires
+push-parameters-requires c κs = search needs
 
 on-requires-2 : tie.Need-on-requires-2
 on-requires-2 c κs = search needs
@@ -26,7 +26,7 @@ link-term-requires c κs = search needs
 
 returns : tie.Need-returns
 unfolding definitionLinked
-returns c = rw (← (c .before .before .before .before .before .before .before .before .on .ensures), ← (c .before .before .before .before .before .before .before .closing .ensures), ← (c .before .before .before .before .link-parameters .ensures), ← (c .before .on2 .ensures), ← (c .link-term .ensures))
+returns c = rw (← (c .before .before .before .before .before .before .before .on .ensures), ← (c .before .before .before .before .before .before .closing .ensures), ← (c .before .before .before .before .push-parameters .ensures), ← (c .before .on2 .ensures), ← (c .link-term .ensures))
 
 pub link-definition-spec : {M : Type 1} → statement M
 link-definition-spec =
@@ -34,7 +34,7 @@ link-definition-spec =
     (tie.spec
     on-requires
     closing-requires
-    link-parameters-requires
+    push-parameters-requires
     on-requires-2
     link-term-requires
     returns)

@@ -284,7 +284,7 @@ link-if-link-term-requires-2 : (t : ℕ) → link-if-lts.Need-link-term-requires
   false-names-reads.Learnt,
 ) (link-if-at t) link-if.Post
 link-if-link-term-requires-2 t c κs =
-    let e = c .before .before .before .before .before .before .before .before .before .before .before .before .before .before .before .before .before .before .before .before .before .before .before .before .pre .0 in
+    let e = c .before .before .before .before .before .before .before .before .before .before .before .before .before .before .before .before .before .before .before .before .before .before .pre .0 in
     (omega (arith, e), search needs)
 
 link-if-returns : (t : ℕ) → link-if-lts.Need-returns (
@@ -308,8 +308,8 @@ link-if-returns : (t : ℕ) → link-if-lts.Need-returns (
   false-names-reads.Learnt,
 ) (link-if-at t) link-if.Post
 link-if-returns t c =
-    if-by _ _ _ _ _ _ _ _ _ _ (c .before .before .before .before .before .before .before .before .before .before .before .before .before .before .before .before .before .before .before .before .before .if-link .ensures) (c .before .before .before .before .before .before .before .before .before .before .before .before .before .before .before .before .before .before .before .before .wide .ensures .0) (c .before .before .before .before .before .before .before .before .before .before .before .before .before .before .before .before .before .before .before .wide2 .ensures .0) (c .before .before .before .before .before .before .before .before .before .before .before .before .before .before .before .before .before .before .on .ensures) (c .before .before .before .before .before .before .before .before .before .before .before .before .before .before .before .before .before .past .ensures) (c .before .before .before .before .before .before .before .before .before .before .before .before .before .before .before .set-link .ensures)
-    (c .before .before .before .before .before .before .before .before .before .before .before .before .link-range .ensures) (c .before .before .before .before .before .before .before .before .before .true-names .ensures) (c .before .before .before .before .before .before .link-term .ensures) (c .before .before .before .false-names .ensures) (c .link-term2 .ensures)
+    if-by _ _ _ _ _ _ _ _ _ _ (c .before .before .before .before .before .before .before .before .before .before .before .before .before .before .before .before .before .before .before .if-link .ensures) (c .before .before .before .before .before .before .before .before .before .before .before .before .before .before .before .before .before .before .wide .ensures .0) (c .before .before .before .before .before .before .before .before .before .before .before .before .before .before .before .before .before .wide2 .ensures .0) (c .before .before .before .before .before .before .before .before .before .before .before .before .before .before .before .before .on .ensures) (c .before .before .before .before .before .before .before .before .before .before .before .before .before .before .before .past .ensures) (c .before .before .before .before .before .before .before .before .before .before .before .before .before .set-link .ensures)
+    (c .before .before .before .before .before .before .before .before .before .before .link-range .ensures) (c .before .before .before .before .before .before .before .before .true-names .ensures) (c .before .before .before .before .before .link-term .ensures) (c .before .before .before .false-names .ensures) (c .link-term2 .ensures)
 
 link-term-past-requires : (t : ℕ) → link-term-lts.Need-past-requires (
   past-reads.Asked,

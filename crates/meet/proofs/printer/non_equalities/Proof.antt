@@ -1,13 +1,11 @@
 -- `non_equalities` ends with its count, which q has room for.
 use Prim.Native.Nat.{_-_}
-use mathlib.Core.Path.{_≡_}
-use lib.ListN.{length}
 use borrow.Author.Needs.{needs}
 use Rattle.meet.proofs.printer.non_equalities.Statement.{statement}
 use Rattle.meet.proofs.printer.non_equalities.Tie as tie
 
 abbrev Inv-loop : tie.InvT-loop
-Inv-loop page₀ at text names q n count k₀ i₀ page k i = length page ≡ length page₀
+Inv-loop page₀ at text names q n count k₀ i₀ page k i = Unit {0}
 
 abbrev μ-loop : tie.MeasureT-loop
 μ-loop page₀ at text names q n count k₀ i₀ page k i = count - i
@@ -51,9 +49,6 @@ loop-less c = search needs
 loop-again : tie.Need-loop-again Inv-loop μ-loop
 loop-again c = search needs
 
-same-length : tie.Need-same-length Inv-loop μ-loop
-same-length c = search needs
-
 returns : tie.Need-returns Inv-loop μ-loop
 returns c = search needs
 
@@ -76,5 +71,4 @@ non-equalities-spec =
     add-i
     loop-less
     loop-again
-    same-length
     returns)

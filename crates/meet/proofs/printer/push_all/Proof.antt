@@ -1,13 +1,12 @@
--- `push_all` ends with its bytes, and a page keeps its length.
+-- `push_all` ends with its bytes.
 use Prim.Native.Nat.{_-_}
-use mathlib.Core.Path.{_≡_}
 use lib.ListN.{length}
 use borrow.Author.Needs.{needs}
 use Rattle.meet.proofs.printer.push_all.Statement.{statement}
 use Rattle.meet.proofs.printer.push_all.Tie as tie
 
 abbrev Inv-loop : tie.InvT-loop
-Inv-loop page₀ at bytes k₀ i₀ page k i = length page ≡ length page₀
+Inv-loop page₀ at bytes k₀ i₀ page k i = Unit {0}
 
 abbrev μ-loop : tie.MeasureT-loop
 μ-loop page₀ at bytes k₀ i₀ page k i = length bytes - i
@@ -30,9 +29,6 @@ loop-less c = search needs
 loop-again : tie.Need-loop-again Inv-loop μ-loop
 loop-again c = search needs
 
-same-length : tie.Need-same-length Inv-loop μ-loop
-same-length c = search needs
-
 returns : tie.Need-returns Inv-loop μ-loop
 returns c = search needs
 
@@ -48,5 +44,4 @@ push-all-spec =
     add-i
     loop-less
     loop-again
-    same-length
     returns)

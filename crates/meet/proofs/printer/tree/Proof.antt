@@ -1,19 +1,15 @@
 -- `tree` ends with its cells.
 use Prim.Native.Nat.{_-_}
-use mathlib.Core.Path.{_≡_}
 use lib.ListN.{length}
 use borrow.Author.Needs.{needs}
 use Rattle.meet.proofs.printer.tree.Statement.{statement}
 use Rattle.meet.proofs.printer.tree.Tie as tie
 
 abbrev Inv-loop : tie.InvT-loop
-Inv-loop page₀ at text names cells waits₀ printed₀ i₀ page waits printed i = length page ≡ length page₀
+Inv-loop page₀ at text names cells waits₀ printed₀ i₀ page waits printed i = Unit {0}
 
 abbrev μ-loop : tie.MeasureT-loop
 μ-loop page₀ at text names cells waits₀ printed₀ i₀ page waits printed i = length cells - i
-
-slice-aggregate-waits : tie.Need-slice-aggregate-waits Inv-loop μ-loop
-slice-aggregate-waits c = search needs
 
 loop-holds : tie.Need-loop-holds Inv-loop μ-loop
 loop-holds c = search needs
@@ -36,9 +32,6 @@ loop-less c = search needs
 loop-again : tie.Need-loop-again Inv-loop μ-loop
 loop-again c = search needs
 
-same-length : tie.Need-same-length Inv-loop μ-loop
-same-length c = search needs
-
 returns : tie.Need-returns Inv-loop μ-loop
 returns c = search needs
 
@@ -48,7 +41,6 @@ tree-spec =
     (tie.spec
     Inv-loop
     μ-loop
-    slice-aggregate-waits
     loop-holds
     mul-node
     shared-slice-read-node
@@ -56,5 +48,4 @@ tree-spec =
     add-i
     loop-less
     loop-again
-    same-length
     returns)

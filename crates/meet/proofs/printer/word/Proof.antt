@@ -1,13 +1,12 @@
 -- `word` ends with the text.
 use Prim.Native.Nat.{_-_}
-use mathlib.Core.Path.{_≡_}
 use lib.ListN.{length}
 use borrow.Author.Needs.{needs}
 use Rattle.meet.proofs.printer.word.Statement.{statement}
 use Rattle.meet.proofs.printer.word.Tie as tie
 
 abbrev Inv-loop : tie.InvT-loop
-Inv-loop page₀ at text from k₀ i₀ page k i = length page ≡ length page₀
+Inv-loop page₀ at text from k₀ i₀ page k i = Unit {0}
 
 abbrev μ-loop : tie.MeasureT-loop
 μ-loop page₀ at text from k₀ i₀ page k i = length text - i
@@ -20,9 +19,6 @@ shared-slice-read-b c = search needs
 
 ends-word-requires : tie.Need-ends-word-requires Inv-loop μ-loop
 ends-word-requires c κs = search needs
-
-same-length : tie.Need-same-length Inv-loop μ-loop
-same-length c = search needs
 
 returns : tie.Need-returns Inv-loop μ-loop
 returns c = search needs
@@ -39,9 +35,6 @@ loop-less c = search needs
 loop-again : tie.Need-loop-again Inv-loop μ-loop
 loop-again c = search needs
 
-same-length-2 : tie.Need-same-length-2 Inv-loop μ-loop
-same-length-2 c = search needs
-
 returns-2 : tie.Need-returns-2 Inv-loop μ-loop
 returns-2 c = search needs
 
@@ -54,11 +47,9 @@ word-spec =
     loop-holds
     shared-slice-read-b
     ends-word-requires
-    same-length
     returns
     push-requires
     add-i
     loop-less
     loop-again
-    same-length-2
     returns-2)

@@ -1,6 +1,7 @@
 -- The text is printed from what `list_first` answered and left.
 use Rattle.pages.proofs.Shown.{first-bytes, taken-text}
 use Rattle.print.specs.twins.ListedText.{listedText}
+use Rattle.pages.specs.Written.{listed, listedBytes}
 use borrow.Author.Needs.{needs}
 use Rattle.pages.proofs.output.list_texts.Statement.{statement}
 use Rattle.pages.proofs.output.list_texts.Tie as tie
@@ -32,6 +33,7 @@ write-list-requires c κs =
     first-bytes (λ cells answer. listedText (a .program .now) (a .job .now) cells answer) (e .0 .0) (e .0 .2) (search needs) (e .1 .0)
 
 returns : tie.Need-returns
+unfolding listed listedBytes
 returns c =
     let a = c .before .before .before .before .before .before .before .before .before .before .before .before .before .before .before .before .args in
     let w = c .before .before .before .before .before .before .before .before .list-first .ensures .0 .0 in

@@ -1,6 +1,7 @@
 -- The text is printed from what `run` answered and left.
 use Rattle.pages.proofs.Shown.{taken-text}
 use Rattle.print.specs.twins.RanText.{ranText}
+use Rattle.pages.specs.Written.{ran, ranBytes}
 use borrow.Author.Needs.{needs}
 use Rattle.pages.proofs.output.run_texts.Statement.{statement}
 use Rattle.pages.proofs.output.run_texts.Tie as tie
@@ -22,6 +23,7 @@ write-run-requires : tie.Need-write-run-requires
 write-run-requires c κs = search needs
 
 returns : tie.Need-returns
+unfolding ran ranBytes
 returns c =
     let a = c .before .before .before .before .before .before .before .before .before .before .before .before .args in
     let w = c .before .before .before .before .before .before .run .ensures .0 in

@@ -7,7 +7,7 @@ use Rattle.pairs.proofs.split.make_atom.Reads as reads
 use Rattle.pairs.proofs.split.make_atom.Lts as lts
 use Rattle.linking.proofs.code.link_at.Reads as link-at-reads
 use Rattle.pairs.proofs.split.bound_contracted.Reads as bound-contracted-reads
-use Rattle.looking.proofs.take.bind_atom.Reads as bind-atom-reads
+use Rattle.heap.proofs.entry.push_entry.Reads as push-entry-reads
 
 returns : tie.Need-returns
 unfolding atomMade
@@ -25,11 +25,11 @@ mul-heap c = search needs
 element-write-heap : tie.Need-element-write-heap
 element-write-heap c = search needs
 
-add-bind-atom : tie.Need-add-bind-atom
-add-bind-atom c = search needs
+add-push-entry : tie.Need-add-push-entry
+add-push-entry c = search needs
 
-bind-atom-requires : tie.Need-bind-atom-requires
-bind-atom-requires c κs = search needs
+push-entry-requires : tie.Need-push-entry-requires
+push-entry-requires c κs = search needs
 
 add-bound-contracted : tie.Need-add-bound-contracted
 add-bound-contracted c = search needs
@@ -39,7 +39,7 @@ bound-contracted-requires c κs = search needs
 
 returns-2 : tie.Need-returns-2
 unfolding atomMade
-returns-2 c = rw (le-ltb _ _ (c .before .before .before .before .before .before .before .if1 .left), ← (c .before .before .before .before .before .before .link-at .ensures), ← (c .before .before .before .bind-atom .ensures)) (c .bound-contracted .ensures)
+returns-2 c = rw (le-ltb _ _ (c .before .before .before .before .before .before .before .if1 .left), ← (c .before .before .before .before .before .before .link-at .ensures), ← (c .before .before .before .push-entry .ensures)) (c .bound-contracted .ensures)
 
 pub make-atom-spec : {M : Type 1} → statement M
 make-atom-spec =
@@ -50,8 +50,8 @@ make-atom-spec =
     cast-place
     mul-heap
     element-write-heap
-    add-bind-atom
-    bind-atom-requires
+    add-push-entry
+    push-entry-requires
     add-bound-contracted
     bound-contracted-requires
     returns-2)

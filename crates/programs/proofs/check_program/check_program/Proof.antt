@@ -17,13 +17,18 @@ bodies-requires c κs = search needs
 first-requires : tie.Need-first-requires
 first-requires c κs = search needs
 
+first-requires-2 : tie.Need-first-requires-2
+first-requires-2 c κs = search needs
+
 returns : tie.Need-returns
 unfolding programAt
 returns c =
     let c1 = c .before in
-    let c5 = c1 .before .before .before .before in
-    rw (c .first .ensures, c1 .bodies .ensures, c5 .definitions .ensures)
+    let c2 = c1 .before in
+    let c6 = c2 .before .before .before .before in
+    rw (c .first2 .ensures, c1 .first .ensures, c2 .bodies .ensures, c6 .definitions .ensures)
 
 pub check-program-spec : {M : Type 1} → statement M
 check-program-spec =
-    tie.close (tie.spec definitions-requires bodies-requires first-requires returns)
+    tie.close
+    (tie.spec definitions-requires bodies-requires first-requires first-requires-2 returns)

@@ -16,19 +16,17 @@ use Rattle.programs.proofs.check_terms.+consp+eqa+term.Lts-eqa as eqa-l
 use Rattle.programs.proofs.check_terms.term.Reads as term
 use Rattle.programs.proofs.check_terms.term.Kinds as term-kinds
 use Rattle.programs.proofs.check_terms.+consp+eqa+term.Lts-term as term-lts
+use Rattle.checker.proofs.check.branched.Reads as branched-reads
 use Rattle.checker.proofs.check.first.Reads as first-reads
-use Rattle.checker.proofs.check.judge.Reads as judge-reads
-use Rattle.checker.proofs.check.negated.Reads as negated-reads
-use Rattle.programs.proofs.check_terms.put.Reads as put-reads
+use Rattle.checker.proofs.check_expressions.binding.Reads as binding-reads
 use Rattle.checker.proofs.check_expressions.ea.Reads as ea-reads
 use Rattle.checker.proofs.check_expressions.exp.Reads as exp-reads
 use Rattle.checker.proofs.check_expressions.leaf.Reads as leaf-reads
 use Rattle.checker.proofs.check_expressions.pair.Reads as pair-reads
-use Rattle.programs.proofs.check_terms.call.Reads as call-reads
 use Rattle.checker.proofs.places.ahead.Reads as ahead-reads
 use Rattle.checker.proofs.places.key.Reads as key-reads
-use Rattle.checker.proofs.places.num.Reads as num-reads
-use Rattle.checker.proofs.places.offset.Reads as offset-reads
+use Rattle.programs.proofs.check_terms.call.Reads as call-reads
+use Rattle.programs.proofs.check_terms.put.Reads as put-reads
 use Rattle.programs.proofs.check_terms.+consp+eqa+term.{statement}
 use Rattle.programs.proofs.check_terms.+consp+eqa+term.Tie.{close}
 
@@ -64,20 +62,14 @@ consp-ahead-requires : (t : ℕ) → consp-lts.Need-ahead-requires (
   ahead-reads.Learnt,
   exp-reads.Asked,
   exp-reads.Learnt,
+  binding-reads.Asked,
+  binding-reads.Learnt,
   put-reads.Asked,
   put-reads.Learnt,
   term-below t,
   term.Post,
-  num-reads.Asked,
-  num-reads.Learnt,
-  negated-reads.Asked,
-  negated-reads.Learnt,
-  offset-reads.Asked,
-  offset-reads.Learnt,
-  judge-reads.Asked,
-  judge-reads.Learnt,
-  first-reads.Asked,
-  first-reads.Learnt,
+  branched-reads.Asked,
+  branched-reads.Learnt,
 ) (consp-at t) consp.Post
 consp-ahead-requires t c κs = search needs
 
@@ -86,20 +78,14 @@ consp-exp-requires : (t : ℕ) → consp-lts.Need-exp-requires (
   ahead-reads.Learnt,
   exp-reads.Asked,
   exp-reads.Learnt,
+  binding-reads.Asked,
+  binding-reads.Learnt,
   put-reads.Asked,
   put-reads.Learnt,
   term-below t,
   term.Post,
-  num-reads.Asked,
-  num-reads.Learnt,
-  negated-reads.Asked,
-  negated-reads.Learnt,
-  offset-reads.Asked,
-  offset-reads.Learnt,
-  judge-reads.Asked,
-  judge-reads.Learnt,
-  first-reads.Asked,
-  first-reads.Learnt,
+  branched-reads.Asked,
+  branched-reads.Learnt,
 ) (consp-at t) consp.Post
 consp-exp-requires t c κs = search needs
 
@@ -108,20 +94,14 @@ consp-ahead-requires-2 : (t : ℕ) → consp-lts.Need-ahead-requires-2 (
   ahead-reads.Learnt,
   exp-reads.Asked,
   exp-reads.Learnt,
+  binding-reads.Asked,
+  binding-reads.Learnt,
   put-reads.Asked,
   put-reads.Learnt,
   term-below t,
   term.Post,
-  num-reads.Asked,
-  num-reads.Learnt,
-  negated-reads.Asked,
-  negated-reads.Learnt,
-  offset-reads.Asked,
-  offset-reads.Learnt,
-  judge-reads.Asked,
-  judge-reads.Learnt,
-  first-reads.Asked,
-  first-reads.Learnt,
+  branched-reads.Asked,
+  branched-reads.Learnt,
 ) (consp-at t) consp.Post
 consp-ahead-requires-2 t c κs = search needs
 
@@ -130,42 +110,46 @@ consp-ahead-requires-3 : (t : ℕ) → consp-lts.Need-ahead-requires-3 (
   ahead-reads.Learnt,
   exp-reads.Asked,
   exp-reads.Learnt,
+  binding-reads.Asked,
+  binding-reads.Learnt,
   put-reads.Asked,
   put-reads.Learnt,
   term-below t,
   term.Post,
-  num-reads.Asked,
-  num-reads.Learnt,
-  negated-reads.Asked,
-  negated-reads.Learnt,
-  offset-reads.Asked,
-  offset-reads.Learnt,
-  judge-reads.Asked,
-  judge-reads.Learnt,
-  first-reads.Asked,
-  first-reads.Learnt,
+  branched-reads.Asked,
+  branched-reads.Learnt,
 ) (consp-at t) consp.Post
 consp-ahead-requires-3 t c κs = search needs
+
+consp-binding-requires : (t : ℕ) → consp-lts.Need-binding-requires (
+  ahead-reads.Asked,
+  ahead-reads.Learnt,
+  exp-reads.Asked,
+  exp-reads.Learnt,
+  binding-reads.Asked,
+  binding-reads.Learnt,
+  put-reads.Asked,
+  put-reads.Learnt,
+  term-below t,
+  term.Post,
+  branched-reads.Asked,
+  branched-reads.Learnt,
+) (consp-at t) consp.Post
+consp-binding-requires t c κs = search needs
 
 consp-put-requires : (t : ℕ) → consp-lts.Need-put-requires (
   ahead-reads.Asked,
   ahead-reads.Learnt,
   exp-reads.Asked,
   exp-reads.Learnt,
+  binding-reads.Asked,
+  binding-reads.Learnt,
   put-reads.Asked,
   put-reads.Learnt,
   term-below t,
   term.Post,
-  num-reads.Asked,
-  num-reads.Learnt,
-  negated-reads.Asked,
-  negated-reads.Learnt,
-  offset-reads.Asked,
-  offset-reads.Learnt,
-  judge-reads.Asked,
-  judge-reads.Learnt,
-  first-reads.Asked,
-  first-reads.Learnt,
+  branched-reads.Asked,
+  branched-reads.Learnt,
 ) (consp-at t) consp.Post
 consp-put-requires t c κs = search needs
 
@@ -174,20 +158,14 @@ consp-put-requires-2 : (t : ℕ) → consp-lts.Need-put-requires-2 (
   ahead-reads.Learnt,
   exp-reads.Asked,
   exp-reads.Learnt,
+  binding-reads.Asked,
+  binding-reads.Learnt,
   put-reads.Asked,
   put-reads.Learnt,
   term-below t,
   term.Post,
-  num-reads.Asked,
-  num-reads.Learnt,
-  negated-reads.Asked,
-  negated-reads.Learnt,
-  offset-reads.Asked,
-  offset-reads.Learnt,
-  judge-reads.Asked,
-  judge-reads.Learnt,
-  first-reads.Asked,
-  first-reads.Learnt,
+  branched-reads.Asked,
+  branched-reads.Learnt,
 ) (consp-at t) consp.Post
 consp-put-requires-2 t c κs = search needs
 
@@ -196,20 +174,14 @@ consp-ahead-requires-4 : (t : ℕ) → consp-lts.Need-ahead-requires-4 (
   ahead-reads.Learnt,
   exp-reads.Asked,
   exp-reads.Learnt,
+  binding-reads.Asked,
+  binding-reads.Learnt,
   put-reads.Asked,
   put-reads.Learnt,
   term-below t,
   term.Post,
-  num-reads.Asked,
-  num-reads.Learnt,
-  negated-reads.Asked,
-  negated-reads.Learnt,
-  offset-reads.Asked,
-  offset-reads.Learnt,
-  judge-reads.Asked,
-  judge-reads.Learnt,
-  first-reads.Asked,
-  first-reads.Learnt,
+  branched-reads.Asked,
+  branched-reads.Learnt,
 ) (consp-at t) consp.Post
 consp-ahead-requires-4 t c κs = search needs
 
@@ -218,42 +190,32 @@ consp-term-requires : (t : ℕ) → consp-lts.Need-term-requires (
   ahead-reads.Learnt,
   exp-reads.Asked,
   exp-reads.Learnt,
+  binding-reads.Asked,
+  binding-reads.Learnt,
   put-reads.Asked,
   put-reads.Learnt,
   term-below t,
   term.Post,
-  num-reads.Asked,
-  num-reads.Learnt,
-  negated-reads.Asked,
-  negated-reads.Learnt,
-  offset-reads.Asked,
-  offset-reads.Learnt,
-  judge-reads.Asked,
-  judge-reads.Learnt,
-  first-reads.Asked,
-  first-reads.Learnt,
+  branched-reads.Asked,
+  branched-reads.Learnt,
 ) (consp-at t) consp.Post
-consp-term-requires t c κs = search needs
+consp-term-requires t c κs =
+    let e = c .before .before .before .before .before .before .before .before .before .before .before .before .before .before .before .before .before .before .before .pre .0 in
+    (omega (arith, e), search needs)
 
 consp-put-requires-3 : (t : ℕ) → consp-lts.Need-put-requires-3 (
   ahead-reads.Asked,
   ahead-reads.Learnt,
   exp-reads.Asked,
   exp-reads.Learnt,
+  binding-reads.Asked,
+  binding-reads.Learnt,
   put-reads.Asked,
   put-reads.Learnt,
   term-below t,
   term.Post,
-  num-reads.Asked,
-  num-reads.Learnt,
-  negated-reads.Asked,
-  negated-reads.Learnt,
-  offset-reads.Asked,
-  offset-reads.Learnt,
-  judge-reads.Asked,
-  judge-reads.Learnt,
-  first-reads.Asked,
-  first-reads.Learnt,
+  branched-reads.Asked,
+  branched-reads.Learnt,
 ) (consp-at t) consp.Post
 consp-put-requires-3 t c κs = search needs
 
@@ -262,276 +224,87 @@ consp-term-requires-2 : (t : ℕ) → consp-lts.Need-term-requires-2 (
   ahead-reads.Learnt,
   exp-reads.Asked,
   exp-reads.Learnt,
+  binding-reads.Asked,
+  binding-reads.Learnt,
   put-reads.Asked,
   put-reads.Learnt,
   term-below t,
   term.Post,
-  num-reads.Asked,
-  num-reads.Learnt,
-  negated-reads.Asked,
-  negated-reads.Learnt,
-  offset-reads.Asked,
-  offset-reads.Learnt,
-  judge-reads.Asked,
-  judge-reads.Learnt,
-  first-reads.Asked,
-  first-reads.Learnt,
+  branched-reads.Asked,
+  branched-reads.Learnt,
 ) (consp-at t) consp.Post
 consp-term-requires-2 t c κs =
-    let e = c .before .before .before .before .before .before .before .before .before .before .before .before .before .before .before .before .before .before .before .before .pre .0 in
+    let e = c .before .before .before .before .before .before .before .before .before .before .before .before .before .before .before .before .before .before .before .before .before .before .before .pre .0 in
     (omega (arith, e), search needs)
-
-consp-num-requires : (t : ℕ) → consp-lts.Need-num-requires (
-  ahead-reads.Asked,
-  ahead-reads.Learnt,
-  exp-reads.Asked,
-  exp-reads.Learnt,
-  put-reads.Asked,
-  put-reads.Learnt,
-  term-below t,
-  term.Post,
-  num-reads.Asked,
-  num-reads.Learnt,
-  negated-reads.Asked,
-  negated-reads.Learnt,
-  offset-reads.Asked,
-  offset-reads.Learnt,
-  judge-reads.Asked,
-  judge-reads.Learnt,
-  first-reads.Asked,
-  first-reads.Learnt,
-) (consp-at t) consp.Post
-consp-num-requires t c κs = search needs
-
-consp-num-requires-2 : (t : ℕ) → consp-lts.Need-num-requires-2 (
-  ahead-reads.Asked,
-  ahead-reads.Learnt,
-  exp-reads.Asked,
-  exp-reads.Learnt,
-  put-reads.Asked,
-  put-reads.Learnt,
-  term-below t,
-  term.Post,
-  num-reads.Asked,
-  num-reads.Learnt,
-  negated-reads.Asked,
-  negated-reads.Learnt,
-  offset-reads.Asked,
-  offset-reads.Learnt,
-  judge-reads.Asked,
-  judge-reads.Learnt,
-  first-reads.Asked,
-  first-reads.Learnt,
-) (consp-at t) consp.Post
-consp-num-requires-2 t c κs = search needs
-
-consp-negated-requires : (t : ℕ) → consp-lts.Need-negated-requires (
-  ahead-reads.Asked,
-  ahead-reads.Learnt,
-  exp-reads.Asked,
-  exp-reads.Learnt,
-  put-reads.Asked,
-  put-reads.Learnt,
-  term-below t,
-  term.Post,
-  num-reads.Asked,
-  num-reads.Learnt,
-  negated-reads.Asked,
-  negated-reads.Learnt,
-  offset-reads.Asked,
-  offset-reads.Learnt,
-  judge-reads.Asked,
-  judge-reads.Learnt,
-  first-reads.Asked,
-  first-reads.Learnt,
-) (consp-at t) consp.Post
-consp-negated-requires t c κs = search needs
-
-consp-offset-requires : (t : ℕ) → consp-lts.Need-offset-requires (
-  ahead-reads.Asked,
-  ahead-reads.Learnt,
-  exp-reads.Asked,
-  exp-reads.Learnt,
-  put-reads.Asked,
-  put-reads.Learnt,
-  term-below t,
-  term.Post,
-  num-reads.Asked,
-  num-reads.Learnt,
-  negated-reads.Asked,
-  negated-reads.Learnt,
-  offset-reads.Asked,
-  offset-reads.Learnt,
-  judge-reads.Asked,
-  judge-reads.Learnt,
-  first-reads.Asked,
-  first-reads.Learnt,
-) (consp-at t) consp.Post
-consp-offset-requires t c κs = search needs
-
-consp-judge-requires : (t : ℕ) → consp-lts.Need-judge-requires (
-  ahead-reads.Asked,
-  ahead-reads.Learnt,
-  exp-reads.Asked,
-  exp-reads.Learnt,
-  put-reads.Asked,
-  put-reads.Learnt,
-  term-below t,
-  term.Post,
-  num-reads.Asked,
-  num-reads.Learnt,
-  negated-reads.Asked,
-  negated-reads.Learnt,
-  offset-reads.Asked,
-  offset-reads.Learnt,
-  judge-reads.Asked,
-  judge-reads.Learnt,
-  first-reads.Asked,
-  first-reads.Learnt,
-) (consp-at t) consp.Post
-consp-judge-requires t c κs = search needs
 
 consp-ahead-requires-5 : (t : ℕ) → consp-lts.Need-ahead-requires-5 (
   ahead-reads.Asked,
   ahead-reads.Learnt,
   exp-reads.Asked,
   exp-reads.Learnt,
+  binding-reads.Asked,
+  binding-reads.Learnt,
   put-reads.Asked,
   put-reads.Learnt,
   term-below t,
   term.Post,
-  num-reads.Asked,
-  num-reads.Learnt,
-  negated-reads.Asked,
-  negated-reads.Learnt,
-  offset-reads.Asked,
-  offset-reads.Learnt,
-  judge-reads.Asked,
-  judge-reads.Learnt,
-  first-reads.Asked,
-  first-reads.Learnt,
+  branched-reads.Asked,
+  branched-reads.Learnt,
 ) (consp-at t) consp.Post
 consp-ahead-requires-5 t c κs = search needs
 
-consp-first-requires : (t : ℕ) → consp-lts.Need-first-requires (
+consp-branched-requires : (t : ℕ) → consp-lts.Need-branched-requires (
   ahead-reads.Asked,
   ahead-reads.Learnt,
   exp-reads.Asked,
   exp-reads.Learnt,
+  binding-reads.Asked,
+  binding-reads.Learnt,
   put-reads.Asked,
   put-reads.Learnt,
   term-below t,
   term.Post,
-  num-reads.Asked,
-  num-reads.Learnt,
-  negated-reads.Asked,
-  negated-reads.Learnt,
-  offset-reads.Asked,
-  offset-reads.Learnt,
-  judge-reads.Asked,
-  judge-reads.Learnt,
-  first-reads.Asked,
-  first-reads.Learnt,
+  branched-reads.Asked,
+  branched-reads.Learnt,
 ) (consp-at t) consp.Post
-consp-first-requires t c κs = search needs
-
-consp-first-requires-2 : (t : ℕ) → consp-lts.Need-first-requires-2 (
-  ahead-reads.Asked,
-  ahead-reads.Learnt,
-  exp-reads.Asked,
-  exp-reads.Learnt,
-  put-reads.Asked,
-  put-reads.Learnt,
-  term-below t,
-  term.Post,
-  num-reads.Asked,
-  num-reads.Learnt,
-  negated-reads.Asked,
-  negated-reads.Learnt,
-  offset-reads.Asked,
-  offset-reads.Learnt,
-  judge-reads.Asked,
-  judge-reads.Learnt,
-  first-reads.Asked,
-  first-reads.Learnt,
-) (consp-at t) consp.Post
-consp-first-requires-2 t c κs = search needs
-
-consp-first-requires-3 : (t : ℕ) → consp-lts.Need-first-requires-3 (
-  ahead-reads.Asked,
-  ahead-reads.Learnt,
-  exp-reads.Asked,
-  exp-reads.Learnt,
-  put-reads.Asked,
-  put-reads.Learnt,
-  term-below t,
-  term.Post,
-  num-reads.Asked,
-  num-reads.Learnt,
-  negated-reads.Asked,
-  negated-reads.Learnt,
-  offset-reads.Asked,
-  offset-reads.Learnt,
-  judge-reads.Asked,
-  judge-reads.Learnt,
-  first-reads.Asked,
-  first-reads.Learnt,
-) (consp-at t) consp.Post
-consp-first-requires-3 t c κs = search needs
-
-consp-first-requires-4 : (t : ℕ) → consp-lts.Need-first-requires-4 (
-  ahead-reads.Asked,
-  ahead-reads.Learnt,
-  exp-reads.Asked,
-  exp-reads.Learnt,
-  put-reads.Asked,
-  put-reads.Learnt,
-  term-below t,
-  term.Post,
-  num-reads.Asked,
-  num-reads.Learnt,
-  negated-reads.Asked,
-  negated-reads.Learnt,
-  offset-reads.Asked,
-  offset-reads.Learnt,
-  judge-reads.Asked,
-  judge-reads.Learnt,
-  first-reads.Asked,
-  first-reads.Learnt,
-) (consp-at t) consp.Post
-consp-first-requires-4 t c κs = search needs
+consp-branched-requires t c κs = search needs
 
 consp-returns : (t : ℕ) → consp-lts.Need-returns (
   ahead-reads.Asked,
   ahead-reads.Learnt,
   exp-reads.Asked,
   exp-reads.Learnt,
+  binding-reads.Asked,
+  binding-reads.Learnt,
   put-reads.Asked,
   put-reads.Learnt,
   term-below t,
   term.Post,
-  num-reads.Asked,
-  num-reads.Learnt,
-  negated-reads.Asked,
-  negated-reads.Learnt,
-  offset-reads.Asked,
-  offset-reads.Learnt,
-  judge-reads.Asked,
-  judge-reads.Learnt,
-  first-reads.Asked,
-  first-reads.Learnt,
+  branched-reads.Asked,
+  branched-reads.Learnt,
 ) (consp-at t) consp.Post
 consp-returns t c =
-    let one = c .before .before .before .before .before .before .before .before .before .before .before .before .before .before .before .before .before .before .before .put .ensures in
-    let two = c .before .before .before .before .before .before .before .before .before .before .before .before .before .before .before .before .before .put2 .ensures in
-    let other = c .before .before .before .before .before .before .before .before .before .before .before .before .put3 .ensures in
+    let c2 = c .before .before in
+    let c4 = c2 .before .before in
+    let c6 = c4 .before .before in
+    let c8 = c6 .before .before in
+    let c9 = c8 .before in
+    let c11 = c9 .before .before in
+    let c13 = c11 .before .before in
+    let c16 = c13 .before .before .before in
+    let c17 = c16 .before in
+    let c18 = c17 .before in
+    let c19 = c18 .before in
+    let one = c11 .put .ensures in
+    let two = c9 .put2 .ensures in
+    let other = c4 .put3 .ensures in
     let more = put-more one in
     let first = kept-on more (put-kept one) (put-kept two) in
     let much = put-more two in
-    let k = kept-on (at-most more much) first (c .before .before .before .before .before .before .before .before .before .before .before .before .before .before .term .ensures .1) in
-    let found = consp-found _ _ _ _ _ _ _ _ _ (c .before .before .before .before .before .before .before .before .before .before .before .before .before .before .before .before .before .before .before .before .before .before .before .before .ahead .ensures) (c .before .before .before .before .before .before .before .before .before .before .before .before .before .before .before .before .before .before .before .before .before .before .before .exp .ensures) (c .before .before .before .before .before .before .before .before .before .before .before .before .before .before .before .before .before .before .before .before .before .before .ahead2 .ensures) (c .before .before .before .before .before .before .before .before .before .before .before .before .before .before .before .before .before .before .before .before .before .ahead3 .ensures) one two (c .before .before .before .before .before .before .before .before .before .before .before .before .before .before .before .before .ahead4 .ensures) (c .before .before .before .before .before .before .before .before .before .before .before .before .before .before .term .ensures .0) k other (c .before .before .before .before .before .before .before .before .before .before .term2 .ensures .0) in (
-      by-way found (rw (← (c .before .before .before .before .before .before .before .before .before .num .ensures), ← (c .before .before .before .before .before .before .before .before .num2 .ensures), ← (c .before .before .before .before .before .before .before .negated .ensures), ← (c .before .before .before .before .before .before .offset .ensures), ← (c .before .before .before .before .before .judge .ensures), ← (c .before .before .before .before .ahead5 .ensures), ← (c .before .before .before .first .ensures), ← (c .before .before .first2 .ensures), ← (c .before .first3 .ensures), ← (c .first4 .ensures))),
-      kept-on (put-more other) (kept-on (le-refl _) k (put-kept other)) (c .before .before .before .before .before .before .before .before .before .before .term2 .ensures .1),
+    let k = kept-on (at-most more much) first (c6 .term .ensures .1) in
+    let found = consp-found _ _ _ _ _ _ _ _ _ (c19 .ahead .ensures) (c18 .exp .ensures) (c17 .ahead2 .ensures) (c16 .ahead3 .ensures) one two (c8 .ahead4 .ensures) (c6 .term .ensures .0) k other (c2 .term2 .ensures .0) in (
+      by-way found (rw (← (c13 .binding .ensures), ← (c .before .ahead5 .ensures), ← (c .branched .ensures))),
+      kept-on (put-more other) (kept-on (le-refl _) k (put-kept other)) (c2 .term2 .ensures .1),
     )
 
 eqa-ahead-requires : (t : ℕ) → eqa-lts.Need-ahead-requires (
@@ -539,10 +312,12 @@ eqa-ahead-requires : (t : ℕ) → eqa-lts.Need-ahead-requires (
   ahead-reads.Learnt,
   ea-reads.Asked,
   ea-reads.Learnt,
-  term-below t,
-  term.Post,
   first-reads.Asked,
   first-reads.Learnt,
+  term-below t,
+  term.Post,
+  branched-reads.Asked,
+  branched-reads.Learnt,
 ) (eqa-at t) eqa.Post
 eqa-ahead-requires t c κs = search needs
 
@@ -551,10 +326,12 @@ eqa-ea-requires : (t : ℕ) → eqa-lts.Need-ea-requires (
   ahead-reads.Learnt,
   ea-reads.Asked,
   ea-reads.Learnt,
-  term-below t,
-  term.Post,
   first-reads.Asked,
   first-reads.Learnt,
+  term-below t,
+  term.Post,
+  branched-reads.Asked,
+  branched-reads.Learnt,
 ) (eqa-at t) eqa.Post
 eqa-ea-requires t c κs = search needs
 
@@ -563,22 +340,40 @@ eqa-ea-requires-2 : (t : ℕ) → eqa-lts.Need-ea-requires-2 (
   ahead-reads.Learnt,
   ea-reads.Asked,
   ea-reads.Learnt,
-  term-below t,
-  term.Post,
   first-reads.Asked,
   first-reads.Learnt,
+  term-below t,
+  term.Post,
+  branched-reads.Asked,
+  branched-reads.Learnt,
 ) (eqa-at t) eqa.Post
 eqa-ea-requires-2 t c κs = search needs
+
+eqa-first-requires : (t : ℕ) → eqa-lts.Need-first-requires (
+  ahead-reads.Asked,
+  ahead-reads.Learnt,
+  ea-reads.Asked,
+  ea-reads.Learnt,
+  first-reads.Asked,
+  first-reads.Learnt,
+  term-below t,
+  term.Post,
+  branched-reads.Asked,
+  branched-reads.Learnt,
+) (eqa-at t) eqa.Post
+eqa-first-requires t c κs = search needs
 
 eqa-ahead-requires-2 : (t : ℕ) → eqa-lts.Need-ahead-requires-2 (
   ahead-reads.Asked,
   ahead-reads.Learnt,
   ea-reads.Asked,
   ea-reads.Learnt,
-  term-below t,
-  term.Post,
   first-reads.Asked,
   first-reads.Learnt,
+  term-below t,
+  term.Post,
+  branched-reads.Asked,
+  branched-reads.Learnt,
 ) (eqa-at t) eqa.Post
 eqa-ahead-requires-2 t c κs = search needs
 
@@ -587,25 +382,31 @@ eqa-term-requires : (t : ℕ) → eqa-lts.Need-term-requires (
   ahead-reads.Learnt,
   ea-reads.Asked,
   ea-reads.Learnt,
-  term-below t,
-  term.Post,
   first-reads.Asked,
   first-reads.Learnt,
+  term-below t,
+  term.Post,
+  branched-reads.Asked,
+  branched-reads.Learnt,
 ) (eqa-at t) eqa.Post
-eqa-term-requires t c κs = search needs
+eqa-term-requires t c κs =
+    let e = c .before .before .before .before .before .before .before .before .before .before .before .before .before .before .pre .0 in
+    (omega (arith, e), search needs)
 
 eqa-term-requires-2 : (t : ℕ) → eqa-lts.Need-term-requires-2 (
   ahead-reads.Asked,
   ahead-reads.Learnt,
   ea-reads.Asked,
   ea-reads.Learnt,
-  term-below t,
-  term.Post,
   first-reads.Asked,
   first-reads.Learnt,
+  term-below t,
+  term.Post,
+  branched-reads.Asked,
+  branched-reads.Learnt,
 ) (eqa-at t) eqa.Post
 eqa-term-requires-2 t c κs =
-    let e = c .before .before .before .before .before .before .before .before .before .before .before .before .before .before .before .pre .0 in
+    let e = c .before .before .before .before .before .before .before .before .before .before .before .before .before .before .before .before .pre .0 in
     (omega (arith, e), search needs)
 
 eqa-ahead-requires-3 : (t : ℕ) → eqa-lts.Need-ahead-requires-3 (
@@ -613,75 +414,51 @@ eqa-ahead-requires-3 : (t : ℕ) → eqa-lts.Need-ahead-requires-3 (
   ahead-reads.Learnt,
   ea-reads.Asked,
   ea-reads.Learnt,
-  term-below t,
-  term.Post,
   first-reads.Asked,
   first-reads.Learnt,
+  term-below t,
+  term.Post,
+  branched-reads.Asked,
+  branched-reads.Learnt,
 ) (eqa-at t) eqa.Post
 eqa-ahead-requires-3 t c κs = search needs
 
-eqa-first-requires : (t : ℕ) → eqa-lts.Need-first-requires (
+eqa-branched-requires : (t : ℕ) → eqa-lts.Need-branched-requires (
   ahead-reads.Asked,
   ahead-reads.Learnt,
   ea-reads.Asked,
   ea-reads.Learnt,
-  term-below t,
-  term.Post,
   first-reads.Asked,
   first-reads.Learnt,
-) (eqa-at t) eqa.Post
-eqa-first-requires t c κs = search needs
-
-eqa-first-requires-2 : (t : ℕ) → eqa-lts.Need-first-requires-2 (
-  ahead-reads.Asked,
-  ahead-reads.Learnt,
-  ea-reads.Asked,
-  ea-reads.Learnt,
   term-below t,
   term.Post,
-  first-reads.Asked,
-  first-reads.Learnt,
+  branched-reads.Asked,
+  branched-reads.Learnt,
 ) (eqa-at t) eqa.Post
-eqa-first-requires-2 t c κs = search needs
-
-eqa-first-requires-3 : (t : ℕ) → eqa-lts.Need-first-requires-3 (
-  ahead-reads.Asked,
-  ahead-reads.Learnt,
-  ea-reads.Asked,
-  ea-reads.Learnt,
-  term-below t,
-  term.Post,
-  first-reads.Asked,
-  first-reads.Learnt,
-) (eqa-at t) eqa.Post
-eqa-first-requires-3 t c κs = search needs
-
-eqa-first-requires-4 : (t : ℕ) → eqa-lts.Need-first-requires-4 (
-  ahead-reads.Asked,
-  ahead-reads.Learnt,
-  ea-reads.Asked,
-  ea-reads.Learnt,
-  term-below t,
-  term.Post,
-  first-reads.Asked,
-  first-reads.Learnt,
-) (eqa-at t) eqa.Post
-eqa-first-requires-4 t c κs = search needs
+eqa-branched-requires t c κs = search needs
 
 eqa-returns : (t : ℕ) → eqa-lts.Need-returns (
   ahead-reads.Asked,
   ahead-reads.Learnt,
   ea-reads.Asked,
   ea-reads.Learnt,
-  term-below t,
-  term.Post,
   first-reads.Asked,
   first-reads.Learnt,
+  term-below t,
+  term.Post,
+  branched-reads.Asked,
+  branched-reads.Learnt,
 ) (eqa-at t) eqa.Post
 eqa-returns t c =
-    let k = c .before .before .before .before .before .before .before .term .ensures .1 in (
-      rw (← (c .before .before .before .before .before .before .before .before .before .before .before .before .before .before .ahead .ensures), ← (c .before .before .before .before .before .before .before .before .before .before .before .before .before .ea .ensures), ← (c .before .before .before .before .before .before .before .before .before .before .ea2 .ensures), ← (c .before .before .before .before .before .before .before .before .before .ahead2 .ensures), ← (c .before .before .before .before .before .before .before .term .ensures .0), ← (term-kept _ _ _ _ _ _ _ _ _ k), ← (c .before .before .before .before .before .term2 .ensures .0), ← (c .before .before .before .before .ahead3 .ensures), ← (c .before .before .before .first .ensures), ← (c .before .before .first2 .ensures), ← (c .before .first3 .ensures), ← (c .first4 .ensures)),
-      kept-on (le-refl _) k (c .before .before .before .before .before .term2 .ensures .1),
+    let c2 = c .before .before in
+    let c4 = c2 .before .before in
+    let c6 = c4 .before .before in
+    let c7 = c6 .before in
+    let c8 = c7 .before in
+    let c11 = c8 .before .before .before in
+    let k = c4 .term .ensures .1 in (
+      rw (← (c11 .before .ahead .ensures), ← (c11 .ea .ensures), ← (c8 .ea2 .ensures), ← (c7 .first .ensures), ← (c6 .ahead2 .ensures), ← (c4 .term .ensures .0), ← (term-kept _ _ _ _ _ _ _ _ _ k), ← (c2 .term2 .ensures .0), ← (c .before .ahead3 .ensures), ← (c .branched .ensures)),
+      kept-on (le-refl _) k (c2 .term2 .ensures .1),
     )
 
 term-leaf-requires : (t : ℕ) → term-lts.Need-leaf-requires (
@@ -1020,20 +797,14 @@ pub +consp+eqa+term-spec : {M : Type 1} → statement M
   ahead-reads.Learnt,
   exp-reads.Asked,
   exp-reads.Learnt,
+  binding-reads.Asked,
+  binding-reads.Learnt,
   put-reads.Asked,
   put-reads.Learnt,
   term-below t,
   term.Post,
-  num-reads.Asked,
-  num-reads.Learnt,
-  negated-reads.Asked,
-  negated-reads.Learnt,
-  offset-reads.Asked,
-  offset-reads.Learnt,
-  judge-reads.Asked,
-  judge-reads.Learnt,
-  first-reads.Asked,
-  first-reads.Learnt,
+  branched-reads.Asked,
+  branched-reads.Learnt,
 )
     (consp-at t)
     consp.Post
@@ -1041,46 +812,39 @@ pub +consp+eqa+term-spec : {M : Type 1} → statement M
     (consp-exp-requires t)
     (consp-ahead-requires-2 t)
     (consp-ahead-requires-3 t)
+    (consp-binding-requires t)
     (consp-put-requires t)
     (consp-put-requires-2 t)
     (consp-ahead-requires-4 t)
     (consp-term-requires t)
     (consp-put-requires-3 t)
     (consp-term-requires-2 t)
-    (consp-num-requires t)
-    (consp-num-requires-2 t)
-    (consp-negated-requires t)
-    (consp-offset-requires t)
-    (consp-judge-requires t)
     (consp-ahead-requires-5 t)
-    (consp-first-requires t)
-    (consp-first-requires-2 t)
-    (consp-first-requires-3 t)
-    (consp-first-requires-4 t)
+    (consp-branched-requires t)
     (consp-returns t))
     (λ t. eqa-lts.spec (
       ahead-reads.Asked,
       ahead-reads.Learnt,
       ea-reads.Asked,
       ea-reads.Learnt,
-      term-below t,
-      term.Post,
       first-reads.Asked,
       first-reads.Learnt,
+      term-below t,
+      term.Post,
+      branched-reads.Asked,
+      branched-reads.Learnt,
     )
     (eqa-at t)
     eqa.Post
     (eqa-ahead-requires t)
     (eqa-ea-requires t)
     (eqa-ea-requires-2 t)
+    (eqa-first-requires t)
     (eqa-ahead-requires-2 t)
     (eqa-term-requires t)
     (eqa-term-requires-2 t)
     (eqa-ahead-requires-3 t)
-    (eqa-first-requires t)
-    (eqa-first-requires-2 t)
-    (eqa-first-requires-3 t)
-    (eqa-first-requires-4 t)
+    (eqa-branched-requires t)
     (eqa-returns t))
     λ t. term-lts.spec (
       leaf-reads.Asked,

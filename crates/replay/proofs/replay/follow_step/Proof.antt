@@ -4,7 +4,7 @@ use Rattle.replay.proofs.replay.follow_step.Statement.{statement}
 use Rattle.replay.proofs.replay.follow_step.Tie as tie
 use Rattle.replay.proofs.replay.follow_step.Reads as reads
 use Rattle.replay.proofs.replay.follow_step.Lts as lts
-use Rattle.replay.proofs.position.after_step.Reads as after-step-reads
+use Rattle.positions.proofs.position.after_step.Reads as after-step-reads
 use Rattle.replay.proofs.replay.save_if.Reads as save-if-reads
 use Rattle.replay.proofs.room.make_room.Reads as make-room-reads
 use Rattle.tracing.proofs.ask.ask.Reads as ask-reads

@@ -4,7 +4,7 @@ use Rattle.replay.proofs.room.floor_top.Statement.{statement}
 use Rattle.replay.proofs.room.floor_top.Tie as tie
 use Rattle.replay.proofs.room.floor_top.Reads as reads
 use Rattle.replay.proofs.room.floor_top.Lts as lts
-use Rattle.replay.proofs.room.is_full.Reads as is-full-reads
+use Rattle.positions.proofs.used.is_full.Reads as is-full-reads
 use Rattle.saving.proofs.saved.older_used.Reads as older-used-reads
 
 is-full-requires : tie.Need-is-full-requires

@@ -5,10 +5,10 @@ use Rattle.replay.proofs.room.make_room.Tie as tie
 use Rattle.replay.proofs.room.make_room.Reads as reads
 use Rattle.replay.proofs.room.make_room.Lts as lts
 use Rattle.compaction.proofs.compact.compact.Reads as compact-reads
-use Rattle.replay.proofs.position.position_at.Reads as position-at-reads
+use Rattle.positions.proofs.position.position_at.Reads as position-at-reads
 use Rattle.replay.proofs.room.floor_top.Reads as floor-top-reads
-use Rattle.replay.proofs.room.is_tight.Reads as is-tight-reads
-use Rattle.replay.proofs.room.with_used.Reads as with-used-reads
+use Rattle.positions.proofs.used.is_tight.Reads as is-tight-reads
+use Rattle.positions.proofs.used.with_used.Reads as with-used-reads
 use Rattle.saving.proofs.head.used_at.Reads as used-at-reads
 
 used-at-requires : tie.Need-used-at-requires

@@ -7,10 +7,10 @@ use Rattle.ura.proofs.meaning.write_numbers.Lts as lts
 use Rattle.ura.proofs.meaning.write_number.Reads as write-number-reads
 
 abbrev Inv-loop : tie.InvT-loop
-Inv-loop fd number₀ number = number ≤ 13
+Inv-loop fd number₀ number = number ≤ 14
 
 abbrev μ-loop : tie.MeasureT-loop
-μ-loop fd number₀ number = 13 - number
+μ-loop fd number₀ number = 14 - number
 
 abbrev Inv-loop2 : tie.InvT-loop2
 Inv-loop2 fd number₀ number = number ≤ 24

@@ -1,5 +1,5 @@
 use mathlib.Core.Path.{ap, _∙_}
-use Rattle.replay.specs.declared.position.Position.{Position}
+use Rattle.positions.specs.declared.position.Position.{Position}
 use Rattle.turns.specs.twins.States.{stateAt}
 use Rattle.walk.proofs.BranchTurns.{branch-spends, branch-moves, back-ends, back-goes}
 use borrow.Author.Needs.{needs}
