@@ -27,7 +27,8 @@ struct source {
 /* Both texts, and what the library answered. */
 struct answer {
   struct source program, job;
-  bool runs; /* a run, else a listing */
+  bool runs;    /* a run, else a listing */
+  bool samples; /* printed with samples */
   size_t number, said[6];
   uint16_t *cells;
   size_t cells_length;

@@ -102,17 +102,17 @@ struct raugvite_tree raugvite_tail(struct raugvite_tree pair) {
 
 /* Lines. */
 
-struct raugvite_lines raugvite_lines_of(const uint16_t *answer, size_t answer_length, size_t lines) {
-  return (struct raugvite_lines){answer, answer_length, lines, 0};
-}
-
-/* Counts the inputs: 1, or 0 where the cells are not whole trees one behind the other. */
-static int count_inputs(struct raugvite_line *line) {
-  struct raugvite_tree rest = line->inputs, input;
-  for (line->input_count = 0; rest.length > 0; line->input_count++) {
-    if (!raugvite_next_tree(&rest, &input)) return 0;
+/* Counts trees one behind the other: 1, or 0 where the cells are not whole ones. */
+static int count_trees(struct raugvite_tree several, size_t *count) {
+  struct raugvite_tree tree;
+  for (*count = 0; several.length > 0; ++*count) {
+    if (!raugvite_next_tree(&several, &tree)) return 0;
   }
   return 1;
+}
+
+struct raugvite_lines raugvite_lines_of(const uint16_t *answer, size_t answer_length, size_t lines) {
+  return (struct raugvite_lines){answer, answer_length, lines, 0};
 }
 
 /* Whether each side is a symbol or a variable ?a. */
@@ -136,7 +136,7 @@ int raugvite_next_line(struct raugvite_lines *lines, struct raugvite_line *line)
                                  .output = {cells + HEADING + i, o},
                                  .unequal_count = q,
                                  .unequal = cells + HEADING + i + o};
-  if (!count_inputs(line) || !is_tree(line->output.cells, o) || !are_atoms(line->unequal, 2 * q)) return -1;
+  if (!count_trees(line->inputs, &line->input_count) || !is_tree(line->output.cells, o) || !are_atoms(line->unequal, 2 * q)) return -1;
   *lines = (struct raugvite_lines){cells + all, lines->length - all, lines->left - 1, line->number};
   return 1;
 }
@@ -156,6 +156,16 @@ static struct raugvite_tree side(const struct raugvite_line *line, size_t i, siz
 struct raugvite_tree raugvite_left(const struct raugvite_line *line, size_t i) { return side(line, i, 0); }
 
 struct raugvite_tree raugvite_right(const struct raugvite_line *line, size_t i) { return side(line, i, 1); }
+
+int raugvite_known_of(const uint16_t *sample, size_t sample_length, size_t inputs, size_t output, struct raugvite_known *known) {
+  *known = (struct raugvite_known){0, NO_TREE, NO_TREE};
+  if (output == 0) return 0;
+  if (sample_length < inputs || sample_length - inputs < output || !is_tree(sample + inputs, output)) return -1;
+  struct raugvite_known found = {0, {sample, inputs}, {sample + inputs, output}};
+  if (!count_trees(found.inputs, &found.input_count)) return -1;
+  *known = found;
+  return 1;
+}
 
 struct raugvite_tree raugvite_value(const uint16_t *answer, size_t answer_length, size_t length) {
   return length <= answer_length && is_tree(answer, length) ? (struct raugvite_tree){answer, length} : NO_TREE;
@@ -276,10 +286,33 @@ static void add_names(struct raugvite_symbols *symbols, const uint8_t *text, siz
   }
 }
 
+/* The number of a name that is Q and a number from 1 up without leading noughts, as far as new atoms can have it; else 0. */
+static size_t new_number(const uint8_t *name, size_t length) {
+  enum { MOST = RAUGVITE_NEW_ATOMS + RAUGVITE_SYMBOLS };
+  size_t number = 0;
+  if (length < 2 || name[0] != 'Q' || name[1] == '0') return 0;
+  for (size_t i = 1; i < length; i++) {
+    if (name[i] < '0' || name[i] > '9') return 0;
+    number = 10 * number + (size_t)(name[i] - '0');
+    if (number > MOST) return 0;
+  }
+  return number;
+}
+
+/* The numbers that make no symbol's name: at most as many are left out as there are symbols. */
+static void number_new_atoms(struct raugvite_symbols *symbols) {
+  uint8_t taken[RAUGVITE_NEW_ATOMS + RAUGVITE_SYMBOLS + 1] = {0};
+  for (size_t i = 0; i < symbols->count; i++) taken[new_number(symbols->name[i], symbols->length[i])] = 1;
+  for (size_t number = 1, k = 0; k < RAUGVITE_NEW_ATOMS; number++) {
+    if (!taken[number]) symbols->new_atom[k++] = (uint16_t)number;
+  }
+}
+
 void raugvite_symbols_of(struct raugvite_symbols *symbols, const uint8_t *program, size_t program_length, const uint8_t *job, size_t job_length) {
   symbols->count = 0;
   add_names(symbols, program, program_length);
   add_names(symbols, job, job_length);
+  number_new_atoms(symbols);
 }
 
 /* Trees as text. */
@@ -336,6 +369,11 @@ static void close_pairs(struct writer *w) {
   }
 }
 
+static void put_new_atom(struct writer *w, unsigned number) {
+  put(w, 'Q');
+  put_number(w, number);
+}
+
 static void put_leaf(struct writer *w, uint16_t cell) {
   enum raugvite_kind kind = kind_of_cell(cell);
   unsigned number = cell / 4u;
@@ -345,6 +383,10 @@ static void put_leaf(struct writer *w, uint16_t cell) {
     return;
   }
   put(w, '\'');
+  if (number >= RAUGVITE_SYMBOLS) {
+    if (number - RAUGVITE_SYMBOLS < RAUGVITE_NEW_ATOMS) put_new_atom(w, w->symbols->new_atom[number - RAUGVITE_SYMBOLS]);
+    return;
+  }
   if (number >= w->symbols->count) return;
   for (size_t i = 0; i < w->symbols->length[number]; i++) put(w, (char)w->symbols->name[number][i]);
 }

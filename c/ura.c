@@ -13,8 +13,8 @@
 enum { ARGUMENTS = 2, OPTIONS = 2 };
 
 /* One byte more than a text may have, so that a longer file is refused with 1; and one more than is ever printed, so that it would show if
- * there were more. A run prints less than a listing may. */
-enum { PROGRAM = 32769, JOB = 8193, PRINTED = RAUGVITE_LISTING_BYTES + 1 };
+ * there were more. Nothing is longer than a listing with samples. */
+enum { PROGRAM = 32769, JOB = 8193, PRINTED = RAUGVITE_SAMPLED_BYTES + 1 };
 
 struct option {
   const char *name, *value, *help; /* `value` is NULL where the option takes none */
@@ -42,7 +42,13 @@ static enum status help(const struct call *call);
 static enum status version(const struct call *call);
 
 static const struct command COMMANDS[] = {
-    {"list", "PROG JOB", 2, 2, {{0}}, "the listing of the program in the file PROG and the job in the file JOB", list},
+    {"list",
+     "PROG JOB",
+     2,
+     2,
+     {{"--samples", NULL, "under each line one known input with its output"}},
+     "the listing of the program in the file PROG and the job in the file JOB",
+     list},
     {"run", "PROG JOB", 2, 2, {{0}}, "the program run forwards on the job's inputs", run},
     {"show",
      "PROG JOB",
@@ -178,17 +184,21 @@ static bool ask(struct answer *a, uint8_t *out, size_t *length) {
     a->number = raugvite_run(p, pn, j, jn, work, work_length, a->cells, n, a->said, 4);
     *length = raugvite_print_run(p, pn, j, jn, a->number, a->said, 4, a->cells, n, 0, out, PRINTED);
   } else if (lent) {
-    a->number = raugvite_list_print(p, pn, j, jn, work, work_length, a->cells, n, a->said, 6, out, PRINTED);
+    size_t (*list_print)(const uint8_t *, size_t, const uint8_t *, size_t, uint16_t *, size_t, uint16_t *, size_t, size_t *, size_t, uint8_t *, size_t) =
+        a->samples ? raugvite_list_print_sampled : raugvite_list_print;
+    a->number = list_print(p, pn, j, jn, work, work_length, a->cells, n, a->said, 6, out, PRINTED);
     *length = a->number == 20 ? strlen((const char *)out) : a->said[RAUGVITE_BYTES]; /* 20 says nothing; zeros stand behind its text */
   }
   free(work);
   return lent;
 }
 
+enum question { LISTING, LISTING_WITH_SAMPLES, RUN };
+
 /* Lists or runs the two files; where the lines are to be shown, `columns` is not 0. */
-static enum status answer_files(const struct call *call, bool runs, size_t columns, bool unsorted) {
+static enum status answer_files(const struct call *call, enum question question, size_t columns, bool unsorted) {
   static uint8_t program[PROGRAM], job[JOB], out[PRINTED];
-  struct answer answer = {.program = {.bytes = program}, .job = {.bytes = job}, .runs = runs};
+  struct answer answer = {.program = {.bytes = program}, .job = {.bytes = job}, .runs = question == RUN, .samples = question == LISTING_WITH_SAMPLES};
   enum status status = FAILED;
   size_t length = 0;
   read_source(&answer.program, call->arguments[0], PROGRAM);
@@ -204,9 +214,11 @@ static enum status answer_files(const struct call *call, bool runs, size_t colum
   return status;
 }
 
-static enum status list(const struct call *call) { return answer_files(call, false, 0, false); }
+static enum status list(const struct call *call) {
+  return answer_files(call, call->values[0] ? LISTING_WITH_SAMPLES : LISTING, 0, false);
+}
 
-static enum status run(const struct call *call) { return answer_files(call, true, 0, false); }
+static enum status run(const struct call *call) { return answer_files(call, RUN, 0, false); }
 
 static enum status show(const struct call *call) {
   const char *wanted = call->values[0];
@@ -216,7 +228,7 @@ static enum status show(const struct call *call) {
     columns = numeral ? (size_t)strtoul(wanted, NULL, 10) : 0;
     if (columns < 64) return misused(call->command, "--columns wants a number from 64 to 9999, not ", wanted, "");
   }
-  return answer_files(call, false, columns, call->values[1] != NULL);
+  return answer_files(call, LISTING, columns, call->values[1] != NULL);
 }
 
 /* The command line. */

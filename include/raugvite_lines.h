@@ -1,5 +1,5 @@
-/* What a caller of raugvite.h needs so as not to decode cells: the lines of a listing and the value of a run as trees, trees as text, what
- * the job's variables are in a line, what each number means, and where an offset stands in its text.
+/* What a caller of raugvite.h needs so as not to decode cells: the lines of a listing, their samples and the value of a run as trees, trees as text,
+ * what the job's variables are in a line, what each number means, and where an offset stands in its text.
  *
  * These functions are written in C (c/lines.c), tested and not proved. They allocate nothing and keep nothing. Whatever the arrays hold, they
  * read nothing outside them: cells that no listing leaves are found out and said. No pointer may be null, also where its length is 0; only
@@ -32,13 +32,20 @@ enum {
    * of its nodes or less. A non-equality counts for 2 nodes and takes at most 38: " # ", two sides of 17 and a blank. */
   RAUGVITE_LISTING_BYTES = 395539,
 
+  /* The same with samples: "(in", ") (out ", ")" and a line feed under each line are 12, of 256 lines 3,072; a node of inputs and output takes at most 18,
+   * a symbol of 17 and a blank before it, of 16,384 nodes 294,912. */
+  RAUGVITE_SAMPLED_BYTES = 693523,
+
   /* The same of a run: "value 1000 ", a value of at most 4,095 nodes (a tree has an odd number), which are 2,048 symbols of 17 bytes and 2,047
    * pairs of 8, and a line feed. */
   RAUGVITE_RUN_BYTES = 51204,
 
   /* Both texts together have at most so many symbols, and a symbol so many characters. */
   RAUGVITE_SYMBOLS = 1024,
-  RAUGVITE_NAME = 16
+  RAUGVITE_NAME = 16,
+
+  /* A sample has at most so many new atoms: no line has more nodes. Their numbers are 1,024 and above. */
+  RAUGVITE_NEW_ATOMS = 4096
 };
 
 /* What a number means that raugvite_list or raugvite_run returns, as a sentence without a full stop: 1 to 13 and 20 to 23; NULL for each other. */
@@ -104,6 +111,17 @@ struct raugvite_tree raugvite_input(const struct raugvite_line *line, size_t i);
 struct raugvite_tree raugvite_left(const struct raugvite_line *line, size_t i);
 struct raugvite_tree raugvite_right(const struct raugvite_line *line, size_t i);
 
+/* The sample of a line. */
+struct raugvite_known {
+  size_t input_count;
+  struct raugvite_tree inputs; /* one behind the other; raugvite_next_tree parts them */
+  struct raugvite_tree output;
+};
+
+/* The sample that raugvite_sample left in `sample`; `inputs` and `output` are said[RAUGVITE_INPUTS] and said[RAUGVITE_OUTPUT]: 1; 0 where there was no such
+ * line; -1 where the cells are not those of a sample, which raugvite_sample does not leave. */
+int raugvite_known_of(const uint16_t *sample, size_t sample_length, size_t inputs, size_t output, struct raugvite_known *known);
+
 /* The value that raugvite_run left in `answer`; `length` is said[RAUGVITE_LENGTH]. A tree of length 0 where there is none. */
 struct raugvite_tree raugvite_value(const uint16_t *answer, size_t answer_length, size_t length);
 
@@ -130,14 +148,16 @@ struct raugvite_bindings raugvite_bindings_of(const uint8_t *job, size_t job_len
 /* The next one: 1; 0 where all were read; -1 where the line is none of this job. */
 int raugvite_next_binding(struct raugvite_bindings *bindings, struct raugvite_binding *binding);
 
-/* The names of the symbols, by number; they point into the two texts. */
+/* The names of the symbols, by number; they point into the two texts. A new atom's name is Q and a number: symbol 1,024 + k has new_atom[k]. */
 struct raugvite_symbols {
   size_t count;
   const uint8_t *name[RAUGVITE_SYMBOLS];
   uint8_t length[RAUGVITE_SYMBOLS];
+  uint16_t new_atom[RAUGVITE_NEW_ATOMS];
 };
 
-/* The names of two accepted texts: symbols are numbered by first standing, in the program and then in the job. */
+/* The names of two accepted texts: symbols are numbered by first standing, in the program and then in the job. The numbers of new atoms rise, from 1 up, and
+ * leave out each that makes a symbol's name. */
 void raugvite_symbols_of(struct raugvite_symbols *symbols, const uint8_t *program, size_t program_length, const uint8_t *job, size_t job_length);
 
 enum raugvite_notation {

@@ -197,6 +197,19 @@ static void try_bindings(void) {
   expect("of another job", raugvite_next_binding(&bindings, &binding) == 1 && raugvite_next_binding(&bindings, &binding) == -1);
 }
 
+static void try_samples(void) {
+  const uint16_t sample[] = {4097, 4, 4101, 1, 4, 4105, 4097, 0, 0}, last[] = {4 * 5119 + 1}, past[] = {4 * 5120 + 1};
+  struct raugvite_known known;
+  texts_of("'Q2 'Q03 'Q", "'Q5 'Q9999 'Q5121 'q1 'Q4x");
+  expect("a sample", raugvite_known_of(sample, 9, 4, 3, &known) == 1 && known.input_count == 2 && known.inputs.length == 4 && known.output.cells == sample + 4);
+  expect("new atoms leave out names of symbols", is_text(sample + 1, 3, RAUGVITE_CONS, "(cons 'Q3 'Q2)") && is_text(sample + 4, 3, RAUGVITE_COLON, "'Q4:'Q1"));
+  expect("the last new atom, and none behind it", is_text(last, 1, RAUGVITE_CONS, "'Q4098") && is_text(past, 1, RAUGVITE_CONS, "'"));
+  expect("no line", raugvite_known_of(sample, 9, 0, 0, &known) == 0 && known.output.length == 0);
+  expect("no trees", raugvite_known_of(sample, 9, 3, 4, &known) == -1 && raugvite_known_of(sample, 9, 4, 2, &known) == -1 && known.inputs.length == 0);
+  expect("too few cells", raugvite_known_of(sample, 6, 4, 3, &known) == -1 && raugvite_known_of(sample, 3, 4, 3, &known) == -1);
+  expect("numbers without end", raugvite_known_of(sample, 9, SIZE_MAX, 1, &known) == -1 && raugvite_known_of(sample, 9, 4, SIZE_MAX, &known) == -1);
+}
+
 int main(void) {
   size_t read = 0;
   try_writing();
@@ -209,6 +222,7 @@ int main(void) {
   try_meanings();
   try_places();
   try_bindings();
+  try_samples();
   printf("%zu passed, %zu failed\n", passed, failed);
   return failed != 0;
 }

@@ -4,6 +4,7 @@ use crate::letters::NEITHER;
 use crate::letters::PROGRAM;
 use crate::letters::SHORT;
 ghost use mathlib.Core.Path.{_≡_};
+ghost use Rattle.answers.specs.declared.list.Answer.the-variants.{Program};
 ghost use Rattle.answers.specs.ListEnding.{unstoppedAs};
 ghost use Rattle.answers.specs.ListNumbers.{wordNumber, wordCut, numberOf, letterOf, offsetOf, cutOf, linesOf, transitionsOf};
 
@@ -33,6 +34,13 @@ pub enum Answer {
         offset: usize,
     },
     Short,
+}
+
+// "p" the program: what its refusal is answered as, with 1 to 13 and the offset.
+pub fn of_program(number: usize, offset: usize) -> Answer
+    ensures { λ r. ⌜ r ≡ Program number offset ⌝ }
+{
+    Answer::Program { number, offset }
 }
 
 // "A walk that isn't stopped ends as cut if a configuration N deep is no end, else as whole."

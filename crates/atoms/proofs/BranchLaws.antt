@@ -13,7 +13,7 @@ use Rattle.expressions.proofs.Combination.{simplify-append}
 use Rattle.language.specs.Program.{Param}
 use Rattle.semantics.specs.Configuration.{state}
 use Rattle.sets.specs.Cells.{atomicCode}
-use Rattle.sets.proofs.RestrictionLaws.{kindCode, kindCells-means}
+use Rattle.restrictions.proofs.RestrictionLaws.{kindCode, kindCells-means}
 use Rattle.heap.specs.declared.configuration.Configuration.{Configuration}
 use Rattle.values.proofs.StateLaws.{isNone, HoldsPair}
 use Rattle.atoms.specs.twins.Choices.{branchesBy, branchesOf}

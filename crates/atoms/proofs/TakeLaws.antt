@@ -19,11 +19,11 @@ use Rattle.semantics.specs.Environment.{mapValues}
 use Rattle.semantics.specs.Configuration.{State, state, Configuration, nodesState}
 use Rattle.semantics.specs.Trace.{configuration, branches, successorsOf, successors}
 use Rattle.sets.specs.Cells.{avarCode, atomicCode}
-use Rattle.sets.specs.twins.Restricting.{RestrictAnswer, bindCells, addCells}
+use Rattle.restrictions.specs.twins.Restricting.{RestrictAnswer, bindCells, addCells}
 use Rattle.sets.specs.twins.Contracting.{equality}
 use Rattle.sets.specs.declared.contraction.Contraction.the-variants.{Identity, Contradiction as Contradictory, Bind, NonEqual}
 use Rattle.sets.proofs.ContractionLaws.{code-tag, atomicCode-same}
-use Rattle.sets.proofs.RestrictionLaws.{Answers, bindCells-means, addCells-means}
+use Rattle.restrictions.proofs.RestrictionLaws.{Answers, bindCells-means, addCells-means}
 use Rattle.heap.specs.twins.Contracted.{Stores}
 use Rattle.heap.specs.twins.Moving.{Left, left, grownStores, boundCell, boundRestriction, leafFrom, leafBound, restrictedLeft, contracted}
 use Rattle.heap.specs.declared.configuration.Configuration.{Configuration as InCells}

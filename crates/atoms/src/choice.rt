@@ -1,7 +1,7 @@
 // The branches of an `eqa?`: "A branch that contradicts is no transition."
 use heap::configuration::Branches;
-use sets::restriction::Kind;
-use sets::restriction::kind_of;
+use restrictions::restriction::Kind;
+use restrictions::restriction::kind_of;
 ghost use mathlib.Core.Path.{_≡_};
 ghost use Rattle.atoms.specs.twins.Choices.{branchesBy, branchesOf};
 

@@ -1,1 +1,2 @@
+pub mod SampleNumbers
 pub mod Told

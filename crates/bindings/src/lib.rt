@@ -2,3 +2,4 @@
 // number of an answer is and what `said` holds beside it is defined in the crate `answers`.
 pub mod lists;
 pub mod runs;
+pub mod sampled;

@@ -1,3 +1,4 @@
-// What the program `meet` decides at the brackets of a line, by value: where a bracket is passed, and how many more may be opened inside it. Reading ends
-// because of these two, and they are checked in seconds.
+// What is decided at brackets, by value: where the program `meet` passes one, and how many more may be opened inside it, because of which its reading ends; which one
+// closes a part of a text. They are checked in seconds.
+pub mod depth;
 pub mod place;

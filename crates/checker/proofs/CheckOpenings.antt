@@ -6,8 +6,8 @@ use mathlib.Core.List.{List}
 use native.Mathlib.Omega.{arith}
 use lib.Dec.{eqb}
 use lib.ListN.{getD}
-use Rattle.checker.specs.declared.check.Verdict.{Verdict}
-use Rattle.checker.specs.declared.check.Verdict.the-variants.{Fine, Fault}
+use Rattle.verdicts.specs.declared.found.Verdict.{Verdict}
+use Rattle.verdicts.specs.declared.found.Verdict.the-variants.{Fine, Fault}
 use Rattle.checker.specs.declared.check.Names.{Names}
 use Rattle.checker.specs.declared.check.Defs.{Defs}
 use Rattle.checker.specs.twins.CheckAt.{Put, first, ahead, arguments, noNames, names, push, pick, pickTerm, sameName, isNamed, inReach, leafAt, pairAt, expAt, argAt, argsAt, placeAt, formAt, termAt, paramsAt, paramsEnd, paramsTwice, defAt, defsAt, bodyAt, bodiesAt}

@@ -11,8 +11,8 @@ use lib.Seq.{getD-set-same, getD-set-other}
 use borrow.Author.Tests.{ltb-true, ltb-false}
 use Rattle.language.specs.Bytes.{txt}
 use Rattle.language.specs.Tokens.{aname, tag, keyOf}
-use Rattle.checker.specs.declared.check.Verdict.{Verdict}
-use Rattle.checker.specs.declared.check.Walked.{Walked}
+use Rattle.verdicts.specs.declared.found.Verdict.{Verdict}
+use Rattle.verdicts.specs.declared.found.Walked.{Walked}
 use Rattle.checker.specs.declared.check.Names.{Names}
 use Rattle.checker.specs.twins.CheckAt.{Kept, Put, names, push, ahead, pick, pickTerm, isNamed, bindingAt, branched, leafAt, pairAt, expAt, eaAt, argAt, argsAt, callAt, eqaAt, conspAt, ifAt, formAt, termAt}
 

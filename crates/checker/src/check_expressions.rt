@@ -1,35 +1,41 @@
 // The check of expressions by their tokens: 8 and 9 (01, "From the input"), and of the names that a `cons?` binds: 6 and 13 (02, request 1).
 // `cells`, `used` of them, are the names in reach.
-use crate::check::Args;
-use crate::check::Verdict;
-use crate::check::Walked;
-use crate::check::both;
-use crate::check::first;
 use crate::check::index;
-use crate::check::judge;
-use crate::check::negated;
 use crate::places::ahead;
 use crate::places::key;
 use crate::places::kind;
 use crate::places::num;
 use crate::places::offset;
+use verdicts::found::Args;
+use verdicts::found::Verdict;
+use verdicts::found::Walked;
+use verdicts::found::first;
+use verdicts::found::judge;
+use verdicts::names::bound;
+use verdicts::names::bound_twice;
+use verdicts::names::is_atomic;
+use verdicts::names::is_same;
+use verdicts::names::used_name;
+use verdicts::truth::both;
+use verdicts::truth::negated;
 use words::keys::ANAME;
 use words::keys::CLOSE_LIST;
-use words::keys::ENAME;
 use words::keys::OPEN;
 use words::keys::SYMBOL;
 ghost use mathlib.Core.Path.{_≡_};
 ghost use mathlib.Core.Bool.{true};
-ghost use Rattle.checker.specs.declared.check.Verdict.the-variants.{Fine};
+ghost use Rattle.verdicts.specs.declared.found.Verdict.the-variants.{Fine};
 ghost use Rattle.checker.specs.twins.CheckStored.{sameName, isNamed, newAt, bindingAt, leafAt, expAt, pairAt, atomicAt, eaAt, argAt, argsAt};
 
 // "`e.x` and `a.x` are two variables."
 fn same_name(marks: &[u16], nums: &[u16], n: usize, i: usize, j: usize) -> bool
     ensures { λ r. ⌜ r ≡ sameName (now (marks .entry)) (now (nums .entry)) n i j ⌝ }
 {
-    both(
-        kind(marks, n, i) == kind(marks, n, j),
-        num(nums, n, i) == num(nums, n, j),
+    is_same(
+        kind(marks, n, i),
+        num(nums, n, i),
+        kind(marks, n, j),
+        num(nums, n, j),
     )
 }
 
@@ -68,7 +74,7 @@ fn new_name(
     ensures { λ r. ⌜ r ≡ newAt (now (marks .entry)) (now (nums .entry)) (now (ats .entry)) n (now (cells .entry)) used i ⌝ }
 {
     let reached = is_named(marks, nums, n, cells, used, i);
-    judge(negated(reached), 13, offset(ats, n, i))
+    bound(reached, offset(ats, n, i))
 }
 
 // What is found of a `cons?` whose e comes to `c` and ends before its three names: "6 .. equal names in one `cons?`", then 13.
@@ -86,8 +92,7 @@ pub fn binding(
     let h = c.past;
     let t = ahead(n, 1, h);
     let x = ahead(n, 2, h);
-    let differ = negated(num(nums, n, h) == num(nums, n, t));
-    let twice = judge(differ, 6, offset(ats, n, t));
+    let twice = bound_twice(num(nums, n, h), num(nums, n, t), offset(ats, n, t));
     let head = new_name(marks, nums, ats, n, cells, used, h);
     let tail = new_name(marks, nums, ats, n, cells, used, t);
     let atom = new_name(marks, nums, ats, n, cells, used, x);
@@ -126,7 +131,7 @@ pub fn leaf(
         past: past,
         names: Verdict::Fine,
         rebound: Verdict::Fine,
-        uses: judge(reached, 9, offset(ats, n, i)),
+        uses: used_name(reached, offset(ats, n, i)),
     }
 }
 
@@ -193,10 +198,7 @@ pub fn pair(
 fn atomic(marks: &[u16], n: usize, i: usize) -> bool
     ensures { λ r. ⌜ r ≡ atomicAt (now (marks .entry)) n i ⌝ }
 {
-    both(
-        negated(key(marks, n, i) == OPEN),
-        negated(kind(marks, n, i) == ENAME),
-    )
+    is_atomic(key(marks, n, i), kind(marks, n, i))
 }
 
 // "8 not atomic where an ea is due", then 9.

@@ -22,7 +22,7 @@ use Rattle.linking.specs.twins.Code.{link, linkAt}
 use Rattle.linking.specs.twins.Linked.{ExpLinked, consLinked, ExpsLinked, noneLinked, moreLinked}
 use Rattle.linking.specs.twins.Places.{envOf}
 use Rattle.constants.proofs.ConstantLaws.{NoConstants, none-held}
-use Rattle.values.specs.twins.Names.{namesFrom}
+use Rattle.values.specs.twins.Names.{namesFrom, namesIn}
 use Rattle.values.specs.twins.Values.{ValueLeft, valueLeft, valueAt}
 use Rattle.values.specs.declared.value.Valued.the-variants.{At}
 use Rattle.values.proofs.ValueLaws.{Known, AllKnown, valued-name}
@@ -35,7 +35,7 @@ use Rattle.looking.specs.declared.look.Tested.the-variants.{Atom, Pair, Large}
 use Rattle.pairs.proofs.NameLaws.{names-held, entries-are}
 use Rattle.pairs.proofs.LookLaws.{TestAt, test-from}
 use Rattle.tracing.specs.declared.ask.Asked.the-variants.{End, Call, Same, Test}
-use Rattle.forward.specs.twins.Naming.{argumentFrom, namesIn, ownAt, partIndex, testedNamed, namedAt}
+use Rattle.forward.specs.twins.Naming.{argumentFrom, ownAt, partIndex, testedNamed, namedAt}
 use Rattle.forward.proofs.PutLaws.{Kept}
 use Rattle.forward.proofs.OutputLaws.{Source, Sources}
 

@@ -6,6 +6,7 @@ use linking::code::link_at;
 use looking::look::Tested;
 use tracing::ask::Asked;
 use values::names::names_from;
+use values::names::names_in;
 use values::value::Valued;
 use values::value::value;
 ghost use mathlib.Core.Path.{_≡_};
@@ -13,7 +14,7 @@ ghost use Prim.Native.Nat.{_≤_};
 ghost use Rattle.values.specs.twins.Values.{valueLeft};
 ghost use Rattle.values.specs.declared.value.Valued.the-variants.{At};
 ghost use Rattle.looking.specs.twins.Looking.{testAt};
-ghost use Rattle.forward.specs.twins.Naming.{argumentFrom, namesIn, ownAt, argumentNamed, partIndex, testedNamed, namedAt};
+ghost use Rattle.forward.specs.twins.Naming.{argumentFrom, ownAt, argumentNamed, partIndex, testedNamed, namedAt};
 
 // The index of an argument, so many behind the one at i.
 fn argument_from(code: &[u16; 24582], q: u16, i: usize) -> usize
@@ -35,13 +36,6 @@ fn inner(c: Configuration) -> usize
     ensures { λ r. ⌜ (r ≡ testAt c) × (r ≤ 4101) ⌝ }
 {
     cell::least(c.place, 4097) + 4
-}
-
-// How many names are in reach: those that a `cons?` binds come behind them.
-fn names_in(c: Configuration) -> usize
-    ensures { λ r. ⌜ r ≡ namesIn c ⌝ }
-{
-    cell::less(c.entries, names_from(c))
 }
 
 // The value of the expression at i in the configuration's environment.

@@ -1,50 +1,17 @@
 // The output of an end, into the answer storage: "its value is the output".
 use crate::named::name_value;
-use cells::cell;
 use heap::configuration::Configuration;
 use linking::code::CELL;
 use linking::code::NAME;
 use linking::code::link_at;
+use running::writing::put_cell;
+use running::writing::put_range;
 use sets::fill::Filled;
-use sets::tree;
 use tracing::ask::Asked;
 use values::value::Valued;
 ghost use mathlib.Core.Path.{_≡_};
 ghost use Rattle.sets.specs.twins.Fill.{fillAnswer};
-ghost use Rattle.forward.specs.twins.Output.{cellPut, rangePut, outLeft, valuePut, namePut, tokenPut, outputPut};
-
-// A cell at `at`, where there are fewer than `limit`.
-fn put_cell(x: u16, answer: &mut [u16], at: usize, limit: usize) -> Filled
-    ensures { λ r. ⌜ fillAnswer r (now (answer .exit)) ≡ cellPut x at limit (now (answer .entry)) ⌝ }
-{
-    if limit <= at {
-        return Filled::Over;
-    }
-    cell::put(answer, at, x);
-    Filled::Done(at + 1)
-}
-
-// The cells of a range at `at`, where there are no more than `limit` then.
-fn put_range(
-    heap: &[u16; 65535],
-    from: usize,
-    to: usize,
-    answer: &mut [u16],
-    at: usize,
-    limit: usize,
-) -> Filled
-    ensures { λ r. ⌜ fillAnswer r (now (answer .exit)) ≡ rangePut from to at limit (now (heap .entry)) (now (answer .entry)) ⌝ }
-{
-    let n = to - cell::least(from, to);
-    if limit < at {
-        return Filled::Over;
-    }
-    if limit - at < n {
-        return Filled::Over;
-    }
-    tree::copy(heap, from, n, answer, at);
-    Filled::Done(at + n)
-}
+ghost use Rattle.forward.specs.twins.Output.{outLeft, valuePut, namePut, tokenPut, outputPut};
 
 // A value's cells; one that the heap has no room for is over any limit.
 fn put_value(heap: &[u16; 65535], v: Valued, answer: &mut [u16], at: usize, limit: usize) -> Filled

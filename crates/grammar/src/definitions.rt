@@ -7,6 +7,9 @@ use crate::readers::the_in;
 use crate::readers::word;
 use crate::readers::wrong;
 use crate::terms::term;
+use bounds::program::definitions_behind;
+use bounds::program::parameters_listed;
+use bounds::text::brackets_inside;
 use words::got::Got;
 use words::keys::ANAME;
 use words::keys::CLOSE;
@@ -35,7 +38,7 @@ fn parameter(marks: &[u16], ats: &[u16], room: usize, i: usize) -> Got
 fn parameters_from(marks: &[u16], ats: &[u16], start: usize) -> Got
     ensures { λ r. ⌜ r ≡ parametersAt (now (marks .entry)) (now (ats .entry)) 16 start ⌝ }
 {
-    let mut room: usize = 16;
+    let mut room = parameters_listed();
     let mut at = start;
     while 0 < room {
         if key(marks, at) == CLOSE_LIST {
@@ -77,7 +80,7 @@ fn definition(marks: &[u16], ats: &[u16], room: usize, i: usize) -> Got
     let listed = the(marks, ats, OPEN_LIST, function);
     let all = parameters(marks, ats, listed);
     let closed = the(marks, ats, CLOSE_LIST, all);
-    let body = term(marks, ats, 63, closed);
+    let body = term(marks, ats, brackets_inside(), closed);
     the(marks, ats, CLOSE, body)
 }
 
@@ -85,7 +88,7 @@ fn definition(marks: &[u16], ats: &[u16], room: usize, i: usize) -> Got
 fn definitions_from(marks: &[u16], ats: &[u16], start: usize) -> Got
     ensures { λ r. ⌜ r ≡ definitionsAt (now (marks .entry)) (now (ats .entry)) 63 start ⌝ }
 {
-    let mut room: usize = 63;
+    let mut room = definitions_behind();
     let mut at = start;
     while 0 < room {
         if key(marks, at) == END {

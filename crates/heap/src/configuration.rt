@@ -1,6 +1,6 @@
 // A configuration by value: what is in use of each storage, and what stands in none.
+use restrictions::restriction::Restricted;
 use sets::fill::Filled;
-use sets::restriction::Restricted;
 ghost use mathlib.Core.Path.{_≡_};
 ghost use Rattle.heap.specs.twins.Moving.{grownBy, restrictedBy};
 

@@ -13,8 +13,8 @@ use Rattle.expressions.specs.Class.{IOClass}
 use Rattle.expressions.specs.Contraction.{CRPair}
 use Rattle.expressions.specs.Split.{firstFresh}
 use Rattle.expressions.proofs.Tests.{and-both}
-use Rattle.sets.specs.twins.Restricting.{RestrictAnswer}
-use Rattle.sets.proofs.RestrictionLaws.{Front, Answers}
+use Rattle.restrictions.specs.twins.Restricting.{RestrictAnswer}
+use Rattle.restrictions.proofs.RestrictionLaws.{Front, Answers}
 use Rattle.language.specs.Program.{Param, pe, pa, Prog, find}
 use Rattle.language.specs.WellFormed.{fits, admitted}
 use Rattle.language.proofs.Formed.{some-main}

@@ -17,7 +17,7 @@ use Rattle.sets.specs.Cells.{cells, cellsAll, restrictionCells}
 use Rattle.sets.specs.twins.Fill.{fillAnswer}
 use Rattle.sets.specs.declared.fill.Filled.the-variants.{Done}
 use Rattle.sets.proofs.CellLaws.{restrictionCells-nodes}
-use Rattle.sets.proofs.RestrictionLaws.{Answers, simplifyCells-means}
+use Rattle.restrictions.proofs.RestrictionLaws.{Answers, simplifyCells-means}
 use Rattle.syntax.specs.declared.job_ends.JobEnds.{JobEnds}
 use Rattle.runs.specs.twins.Runs.{cellsAt, run}
 use Rattle.runs.proofs.RunLaws.{written-done, sets-append, run-drop}

@@ -11,7 +11,7 @@ use layout::job::Parts;
 use layout::job::lay_job;
 use layout::job::take_sides;
 use linking::terms::closing;
-use sets::restriction::Restricted;
+use restrictions::restriction::Restricted;
 use syntax::job_ends::JobEnds;
 ghost use mathlib.Core.Path.{_≡_};
 ghost use Rattle.initial.specs.twins.Beginning.{mainBody, enteredAs, enterLeft, valuesEntered, outputEntered, jobEntered, begunWith, begunFrame, keptBegun, begunLeft, laidBegun, begunAt};

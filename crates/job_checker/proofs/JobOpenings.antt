@@ -5,8 +5,8 @@ use mathlib.Core.Bool.{Bool, true, false, cond, _&&_, not}
 use mathlib.Core.List.{List}
 use lib.Dec.{eqb, leb, ltb}
 use lib.ListN.{length, getD, set}
-use Rattle.checker.specs.declared.check.Verdict.{Verdict}
-use Rattle.checker.specs.declared.check.Verdict.the-variants.{Fine}
+use Rattle.verdicts.specs.declared.found.Verdict.{Verdict}
+use Rattle.verdicts.specs.declared.found.Verdict.the-variants.{Fine}
 use Rattle.checker.specs.twins.CheckAt.{first, ahead, walked, arguments, pick}
 use Rattle.job_checker.specs.twins.JobCheckAt.{datumLeaf, datumPair, datumAt, inputAt, inputsAt, markedFrom, twoSides, sidesAt}
 use Rattle.job_checker.specs.twins.JobStored.{numeralFrom}

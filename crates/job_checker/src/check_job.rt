@@ -1,21 +1,25 @@
 // The check of a job by its tokens: "Job: 10, 11, 12" (01, "From the input"). The tokens, n of the job and m of the program before it, were
 // read without refusal; `main` holds the marks of the program's, `runs` is whether the tool is the runner.
+use bounds::job::is_steps;
+use bounds::job::is_table;
+use bounds::job::is_walk;
 use cells::cell::byte;
 use cells::cell::cell;
 use cells::cell::put;
-use checker::check::Args;
-use checker::check::Verdict;
-use checker::check::Walked;
-use checker::check::both;
-use checker::check::either;
-use checker::check::first;
-use checker::check::judge;
-use checker::check::negated;
 use checker::places::ahead;
 use checker::places::key;
 use checker::places::kind;
 use checker::places::num;
 use checker::places::offset;
+use verdicts::found::Args;
+use verdicts::found::Verdict;
+use verdicts::found::Walked;
+use verdicts::found::first;
+use verdicts::found::judge;
+use verdicts::names::is_side;
+use verdicts::truth::both;
+use verdicts::truth::either;
+use verdicts::truth::negated;
 use words::keys::ANAME;
 use words::keys::AVARIABLE;
 use words::keys::CLOSE;
@@ -26,7 +30,7 @@ use words::keys::SYMBOL;
 ghost use mathlib.Core.Path.{_≡_};
 ghost use Prim.Native.Nat.{_-_};
 ghost use mathlib.Core.Bool.{true, false};
-ghost use Rattle.checker.specs.declared.check.Verdict.the-variants.{Fine};
+ghost use Rattle.verdicts.specs.declared.found.Verdict.the-variants.{Fine};
 ghost use Rattle.job_checker.specs.twins.JobStored.{numeralFrom, datumLeaf, datumAt, atomicAt, inputAt, inputsAt, markedFrom, sideAt, twoSides, sidesAt, boundsAt, tensAt, elevensAt, jobAt};
 
 // "in the runner, any variable in an input (offset: the variable)".
@@ -163,11 +167,8 @@ fn mark_variables(marks: &[u16], nums: &[u16], n: usize, end: usize, j: usize, m
 fn side(marks: &[u16], nums: &[u16], n: usize, marked: &[u16], i: usize) -> bool
     ensures { λ r. ⌜ r ≡ sideAt (now (marks .entry)) (now (nums .entry)) n (now (marked .entry)) i ⌝ }
 {
-    let there = cell(marked, num(nums, n, i) as usize) == 1;
-    both(
-        atomic(marks, n, i),
-        either(kind(marks, n, i) == SYMBOL, there),
-    )
+    let there = cell(marked, num(nums, n, i) as usize);
+    is_side(atomic(marks, n, i), kind(marks, n, i), there)
 }
 
 // The two sides of a non-equality.
@@ -269,9 +270,9 @@ fn bounds(text: &[u8], ats: &[u16], n: usize, c: usize) -> Verdict
     let steps = offset(ats, n, ahead(n, 3, c));
     let walk = offset(ats, n, ahead(n, 7, c));
     let table = offset(ats, n, ahead(n, 11, c));
-    let u = judge(numeral(text, 7, steps, 0) <= 1000, 12, steps);
-    let v = judge(numeral(text, 7, walk, 0) <= 1000000, 12, walk);
-    let w = judge(numeral(text, 7, table, 0) <= 256, 12, table);
+    let u = judge(is_steps(numeral(text, 7, steps, 0)), 12, steps);
+    let v = judge(is_walk(numeral(text, 7, walk, 0)), 12, walk);
+    let w = judge(is_table(numeral(text, 7, table, 0)), 12, table);
     first(u, first(v, w))
 }
 

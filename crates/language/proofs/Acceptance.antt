@@ -27,11 +27,11 @@ use Rattle.language.specs.Reading.{readText, readProgram, readJob, accep
 use Rattle.language.proofs.Tests.{or-left, or-right, both, is-false}
 
 -- a check that finds no fault
-no-fault : (a b : Verdict) → (a orElse b) ≡ none → (a ≡ none) × (b ≡ none)
+pub no-fault : (a b : Verdict) → (a orElse b) ≡ none → (a ≡ none) × (b ≡ none)
 no-fault none b e = (refl, e)
 no-fault (some r) b e = absurd (Option·some-ne-none r e)
 
-passes : (t : Bool) (n o : ℕ) → unless t n o ≡ none → t ≡ true
+pub passes : (t : Bool) (n o : ℕ) → unless t n o ≡ none → t ≡ true
 passes true n o e = refl
 passes false n o e = absurd (Option·some-ne-none _ e)
 
@@ -207,15 +207,15 @@ checks-passed tool s t d e =
 refused-ok : {A B : Type 0} (r : Refusal) (a : A) → refused r ≡ ok a → B
 refused-ok r a e = let z : _≡_ {A = ℕ} 0 1 = cc in let n : ⊥ = omega arith in absurd n
 
-then-ok : {A B : Type 0} (r : Res A) (f : A → Res B) (b : B) → andThen r f ≡ ok b → (a : A) × (r ≡ ok a) × (f a ≡ ok b)
+pub then-ok : {A B : Type 0} (r : Res A) (f : A → Res B) (b : B) → andThen r f ≡ ok b → (a : A) × (r ≡ ok a) × (f a ≡ ok b)
 then-ok (ok a) f b e = (a, refl, e)
 then-ok (refused r) f b e = refused-ok r b e
 
-let-pass : {A : Type 0} (v : Verdict) (a b : A) → unlessFault v a ≡ ok b → (v ≡ none) × (a ≡ b)
+pub let-pass : {A : Type 0} (v : Verdict) (a b : A) → unlessFault v a ≡ ok b → (v ≡ none) × (a ≡ b)
 let-pass none a b e = (refl, cc)
 let-pass (some r) a b e = refused-ok r b e
 
-text-passed : {A : Type 0} (text : Text) (limit : ℕ) (m : Reader A) (check : A → Verdict) (before : List Word) (bs : List ℕ) (a : A) →
+pub text-passed : {A : Type 0} (text : Text) (limit : ℕ) (m : Reader A) (check : A → Verdict) (before : List Word) (bs : List ℕ) (a : A) →
     readText text limit m check before bs ≡ ok a → check a ≡ none
 text-passed {A} text limit m check before bs a e =
     let x = then-ok (unlessFault (bytesVerdict limit bs) bs) _ a e in
@@ -231,7 +231,7 @@ job-read : (s s′ : SProg) (x : Res SJob) (j : SJob) → withJob s x ≡ accept
 job-read s s′ (ok i) j e = ((cc), ap ok (cc))
 job-read s s′ (refused r) j e = rejected-accepted ofJob r s′ j e
 
-both-read : (f : SProg → Res SJob) (x : Res SProg) (s : SProg) (j : SJob) → withProgram f x ≡ accepted s j → (x ≡ ok s) × (f s ≡ ok j)
+pub both-read : (f : SProg → Res SJob) (x : Res SProg) (s : SProg) (j : SJob) → withProgram f x ≡ accepted s j → (x ≡ ok s) × (f s ≡ ok j)
 both-read f (ok s′) s j e = let w = job-read s′ s (f s′) j e in (ap ok (w .0), ap f (inv (w .0)) ∙ w .1)
 both-read f (refused r) s j e = rejected-accepted ofProgram r s j e
 

@@ -6,3 +6,6 @@ pub mod VerdictNumbers
 pub mod ReaderLaws
 pub mod TokenNumbers
 pub mod Numbers
+pub mod SymbolWords
+pub mod Spelling
+pub mod ReadBack

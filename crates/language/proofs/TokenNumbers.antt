@@ -27,28 +27,34 @@ NameNumber n = n < 4096
 abbrev pub VariableNumber : ℕ → Type 0
 VariableNumber n = (1 ≤ n) × (n ≤ 999)
 
--- by kind; a plain word of a job is a numeral
+-- by kind, S of a symbol; a plain word of a job is a numeral
+abbrev pub KindNumberOf : (ℕ → Type 0) → Text → Kind → ℕ → Type 0
+KindNumberOf S t symbol n = S n
+KindNumberOf S t ename n = NameNumber n
+KindNumberOf S t aname n = NameNumber n
+KindNumberOf S t evariable n = VariableNumber n
+KindNumberOf S t avariable n = VariableNumber n
+KindNumberOf S ofProgram plain n = NameNumber n
+KindNumberOf S ofJob plain n = Unit {0}
+
 abbrev pub KindNumber : Text → Kind → ℕ → Type 0
-KindNumber t symbol n = SymbolNumber n
-KindNumber t ename n = NameNumber n
-KindNumber t aname n = NameNumber n
-KindNumber t evariable n = VariableNumber n
-KindNumber t avariable n = VariableNumber n
-KindNumber ofProgram plain n = NameNumber n
-KindNumber ofJob plain n = Unit {0}
+KindNumber t k n = KindNumberOf SymbolNumber t k n
+
+abbrev pub TokenNumberOf : (ℕ → Type 0) → Text → Token → Type 0
+TokenNumberOf S t x = x .fit ≡ fits → x .over ≡ false → KindNumberOf S t (x .kind) (x .num)
 
 abbrev pub TokenNumber : Text → Token → Type 0
-TokenNumber t x = x .fit ≡ fits → x .over ≡ false → KindNumber t (x .kind) (x .num)
+TokenNumber t x = TokenNumberOf SymbolNumber t x
 
 -- the place of a word among the words before it, and behind them
-abbrev placed : Bool → ℕ → ℕ
+abbrev pub placed : Bool → ℕ → ℕ
 placed t n = elim t [ true ↦ 0 | false ↦ suc n ]
 
-same-self : (w : Word) → same w w ≡ true
+pub same-self : (w : Word) → same w w ≡ true
 same-self [] = refl
 same-self (b ∷ w) = ap₂ _&&_ (eqb-same b) (same-self w)
 
-place-in : (w : Word) (ws more : List Word) → place w ws < length ws → place w (ws ++ more) < length ws
+pub place-in : (w : Word) (ws more : List Word) → place w ws < length ws → place w (ws ++ more) < length ws
 place-in w [] more l = let z : ⊥ = omega arith in absurd z
 place-in w (v ∷ vs) more l = go (same v w) l (place-in w vs more)
   where
@@ -56,7 +62,7 @@ place-in w (v ∷ vs) more l = go (same v w) l (place-in w vs more)
     go true l h = omega arith
     go false l h = let k = h (omega arith) in omega arith
 
-place-here : (w : Word) (ws more : List Word) → place w (ws ++ (w ∷ more)) ≤ length ws
+pub place-here : (w : Word) (ws more : List Word) → place w (ws ++ (w ∷ more)) ≤ length ws
 place-here w [] more = rw (same-self w, place) (omega arith)
 place-here w (v ∷ vs) more = go (same v w) (place-here w vs more)
   where
@@ -64,7 +70,7 @@ place-here w (v ∷ vs) more = go (same v w) (place-here w vs more)
     go true h = omega arith
     go false h = omega arith
 
-firsts-grow : (f : Word → Bool) (ws : List Word) (ps : List Piece) → (more : List Word) × (firsts f ws ps ≡ ws ++ more)
+pub firsts-grow : (f : Word → Bool) (ws : List Word) (ps : List Piece) → (more : List Word) × (firsts f ws ps ≡ ws ++ more)
 firsts-grow f ws [] = ([], inv (append-nil ws))
 firsts-grow f ws (p ∷ ps) = go (λ vs. firsts-grow f vs ps) (f (p .word) && not (isAmong (p .word) ws))
   where
@@ -166,5 +172,5 @@ one-fits room k t e = let r = of-kind (isA k t) (t .fit) (with-room room _ e) in
     of-kind true f e = (refl, e)
     of-kind false f e = let z : _≡_ {A = ℕ} 0 1 = cc in let n : ⊥ = omega arith in absurd n
 
-pub one-reads : (t : Text) (room : ℕ) (k : Kind) → Reads (TokenNumber t) (λ x. KindNumber t k (x .num)) (oneOf room k)
-one-reads t room k = map-reads (λ x h. let r = one-fits room k x (h .fit) in subst (λ (k : Kind). KindNumber t k (x .num)) (r .0) (h .good (r .1) (h .over))) (take-reads (oneFit room k))
+pub one-reads : (S : ℕ → Type 0) (t : Text) (room : ℕ) (k : Kind) → Reads (TokenNumberOf S t) (λ x. KindNumberOf S t k (x .num)) (oneOf room k)
+one-reads S t room k = map-reads (λ x h. let r = one-fits room k x (h .fit) in subst (λ (k : Kind). KindNumberOf S t k (x .num)) (r .0) (h .good (r .1) (h .over))) (take-reads (oneFit room k))

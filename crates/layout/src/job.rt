@@ -2,14 +2,14 @@
 use crate::datum::lay_cell;
 use crate::datum::lay_data;
 use cells::cell;
+use restrictions::restriction;
+use restrictions::restriction::Restricted;
 use sets::fill::Filled;
-use sets::restriction;
-use sets::restriction::Restricted;
 use sets::tree;
 use syntax::job_ends::JobEnds;
 ghost use mathlib.Core.Path.{_≡_};
 ghost use Rattle.sets.specs.twins.Fill.{fillAnswer};
-ghost use Rattle.sets.specs.twins.Restricting.{restrictAnswer};
+ghost use Rattle.restrictions.specs.twins.Restricting.{restrictAnswer};
 ghost use Rattle.layout.specs.twins.Laying.{outputLaid, sidesLaid, laidAs, laidLeft, endsLaid, jobLaid, sidesTaken};
 
 // The index of the first input in a job.

@@ -5,6 +5,8 @@ use crate::table::find;
 use crate::table::find_linked;
 use crate::table::link;
 use crate::table::link_all;
+use bounds::text::is_symbol_over;
+use bounds::text::is_token_over;
 use cells::cell::low;
 use cells::cell::put;
 use cells::part::part;
@@ -85,14 +87,11 @@ fn number(job: bool, kind: u16, fit: u16, place: u16, word: &[u8]) -> u16
 fn over_at(i: usize, kind: u16, num: u16) -> bool
     ensures { λ r. ⌜ r ≡ overAt i kind num ⌝ }
 {
-    if 4096 <= i {
+    if is_token_over(i) {
         return true;
     }
     if kind == 0 {
-        if 1024 <= num {
-            return true;
-        }
-        return false;
+        return is_symbol_over(num);
     }
     false
 }

@@ -2,6 +2,7 @@
 use crate::cases::find;
 use cells::cell::byte;
 use cells::part::part;
+use notations::repetition::behind;
 ghost use Prim.Native.Nat.{_≤_, _<_};
 ghost use lib.ListN.{length};
 
@@ -156,7 +157,7 @@ fn repeated(line: &[u8], w: Written, out: &mut [u8]) -> Written
     let star = find(line, at, b'*');
     let body = part(line, star + 1, end);
     Written {
-        next: end + 1,
+        next: behind(line, end),
         bytes: write_times(body, times, out, w.bytes),
     }
 }

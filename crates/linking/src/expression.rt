@@ -8,10 +8,10 @@ use crate::names::place_of;
 use crate::tokens::key;
 use crate::tokens::kind;
 use cells::cell;
+use links::link::is_pair;
 use sets::contraction;
 use sets::tree;
 use words::keys::ANAME;
-use words::keys::CONS;
 use words::keys::ENAME;
 use words::keys::SYMBOL;
 ghost use mathlib.Core.Path.{_≡_};
@@ -42,7 +42,7 @@ fn token_link(
     ensures { λ r. ⌜ r ≡ tokenLink (now (marks .entry)) (now (nums .entry)) (now (ends .entry)) (now (names .entry)) used i ⌝ }
 {
     let past = cell::cell(ends, i);
-    if key(marks, i) == CONS {
+    if is_pair(key(marks, i)) {
         return link_of(CELL, tree::PAIR, past);
     }
     let tag = kind(marks, i);

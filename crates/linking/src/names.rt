@@ -2,6 +2,7 @@
 // that a name comes behind those there are, and its place is their number.
 use crate::tokens::same_name;
 use cells::cell;
+use links::link::with_one;
 ghost use mathlib.Core.Path.{_≡_};
 ghost use Rattle.linking.specs.twins.Linking.{placeOf, namesLeft, pushedName};
 
@@ -32,7 +33,7 @@ pub(crate) fn push_name(names: &mut [usize; 144], used: usize, i: usize) -> usiz
 {
     if used < 144 {
         names[used] = i;
-        return used + 1;
+        return with_one(used);
     }
     used
 }

@@ -5,6 +5,8 @@ use crate::terms::closing;
 use crate::terms::link_term;
 use crate::tokens::on;
 use cells::cell;
+use links::link::bracket_of;
+use links::link::last_of;
 ghost use mathlib.Core.Path.{_≡_};
 ghost use Prim.Native.Nat.{_-_};
 ghost use Rattle.linking.specs.twins.Linking.{namesLeft, linked, parametersNamed, definitionLinked, programLinked, programEnd};
@@ -80,6 +82,6 @@ pub fn link_program(
 pub fn program_end(ends: &[u16], heads: &[u16; 64], count: usize) -> usize
     ensures { λ r. ⌜ r ≡ programEnd (now (ends .entry)) (now (heads .entry)) count ⌝ }
 {
-    let name = cell::wide(cell::cell(heads, cell::less(count, 1)));
-    cell::wide(cell::cell(ends, cell::less(name, 2)))
+    let name = cell::wide(cell::cell(heads, last_of(count)));
+    cell::wide(cell::cell(ends, bracket_of(name)))
 }

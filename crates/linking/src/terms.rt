@@ -10,6 +10,7 @@ use crate::tokens::key;
 use crate::tokens::on;
 use crate::tokens::past;
 use cells::cell;
+use links::link::body_behind;
 use words::keys;
 ghost use mathlib.Core.Path.{_≡_};
 ghost use Rattle.linking.specs.twins.Linking.{formOf, headOf, closingAt, callLink, ifLink, namesLeft, trueNames, falseNames, linked, ifLinked, termLinked};
@@ -77,7 +78,7 @@ fn call_link(
     Link {
         mark: CALL,
         first: cell::low(close - cell::least(open, close)),
-        second: cell::low(on(close, 1)),
+        second: body_behind(close),
         past: cell::cell(ends, i),
     }
 }

@@ -1,3 +1,14 @@
 pub mod Cases
 pub mod Readings
 pub mod Bindings
+pub mod SampleCases
+pub mod SampleRunCases
+pub mod Samples
+pub mod LineSizes
+pub mod Numerals
+pub mod FreeNames
+pub mod ValueReading
+pub mod JobReading
+pub mod SampleAtoms
+pub mod SampleNames
+pub mod SampleTexts

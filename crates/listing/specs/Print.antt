@@ -6,7 +6,7 @@ use lib.Dec.{ltb}
 use lib.ListN.{length, getD}
 use Rattle.expressions.specs.Expression.{Value, atom, cons, AtomicExp, sym, avar, Exp, atm, evar, pair}
 use Rattle.expressions.specs.Restriction.{NonEquality, Restriction}
-use Rattle.expressions.specs.Class.{IOPair}
+use Rattle.expressions.specs.Class.{IOPair, GroundPair}
 use Rattle.language.specs.Bytes.{txt}
 use Rattle.language.specs.Words.{Word}
 use Rattle.semantics.specs.Tree.{Line}
@@ -61,7 +61,21 @@ printWord (stop stop21) = txt "stop21"
 printWord (stop stop22) = txt "stop22"
 printWord (stop stop23) = txt "stop23"
 
--- "First line: `whole`, `cut` or `stop21` to `stop23`, the lines, the transitions." "Every line ends in a line feed."
+-- "First line: `whole`, `cut` or `stop21` to `stop23`, the lines, the transitions." "Every line ends in a line feed." `rest` is what follows it.
+abbrev pub printFirst : Walked → List ℕ → List ℕ
+printFirst w rest = printWord (wordOf w) ++ (32 ∷ digits (length (linesOf w))) ++ (32 ∷ digits (countOf w)) ++ (10 ∷ []) ++ rest
+
 unfoldable pub printListing : List Word → IOPair → Walked → List ℕ
-printListing ns j w =
-    printWord (wordOf w) ++ (32 ∷ digits (length (linesOf w))) ++ (32 ∷ digits (countOf w)) ++ (10 ∷ []) ++ printLines ns j 1 (linesOf w)
+printListing ns j w = printFirst w (printLines ns j 1 (linesOf w))
+
+-- "`(in D ..) (out D)`, one blank between parts" (02, request 2): D is a d of a job text; `rest` is what follows
+abbrev pub printInputs : List Word → List Value → List ℕ
+printInputs ns [] = []
+printInputs ns (v ∷ vs) = 32 ∷ printValue ns v ++ printInputs ns vs
+
+abbrev pub printPair : List Word → GroundPair → List ℕ → List ℕ
+printPair ns c rest = txt "(in" ++ printInputs ns (c .ins) ++ txt ") (out " ++ printValue ns (c .out) ++ (41 ∷ rest)
+
+-- "each prints under its line"; "Every line ends in a line feed."
+abbrev pub printSample : List Word → GroundPair → List ℕ
+printSample ns c = printPair ns c (10 ∷ [])

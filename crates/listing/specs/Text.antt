@@ -8,6 +8,7 @@ use Rattle.language.specs.Reading.{symbolNames}
 use Rattle.semantics.specs.Runner.{Ran, value, ranOver, notWithin}
 use Rattle.semantics.specs.Answer.{Answer, answered, refused, Listed, list, run}
 use Rattle.listing.specs.Print.{digits, printValue, printListing}
+use Rattle.listing.specs.Sample.{printSampledListing}
 
 -- "p program, j job"
 abbrev pub letterOf : Text → ℕ
@@ -35,6 +36,11 @@ printRan ns notWithin = txt "notwithin\n"
 unfoldable pub listText : List ℕ → List ℕ → List ℕ
 unfolding list symbolsOf printListing
 listText p j = printAnswer (λ a. printListing (symbolNames p j) (a .job .con) (a .walked)) (list p j)
+
+-- the same listing with a sample under each line (02, request 2)
+unfoldable pub sampledText : List ℕ → List ℕ → List ℕ
+unfolding list symbolsOf printSampledListing
+sampledText p j = printAnswer (λ a. printSampledListing (symbolNames p j) (a .job .con) (a .walked)) (list p j)
 
 unfoldable pub runText : List ℕ → List ℕ → List ℕ
 unfolding run symbolsOf

@@ -13,7 +13,7 @@ fn main() {
     let job: &mut [u8] = &mut job_space;
     let p = read_file(b"prog.tsg", program);
     let j = read_file(b"job.txt", job);
-    let listed = list_texts(part(program, 0, p), part(job, 0, j));
+    let listed = list_texts(false, part(program, 0, p), part(job, 0, j));
     let written = listed.written;
     if !written.whole {
         os::fail(b"standard output");

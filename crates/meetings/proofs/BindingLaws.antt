@@ -14,7 +14,7 @@ use Rattle.expressions.specs.Restriction.{Restriction}
 use Rattle.expressions.specs.Contraction.{CRPair}
 use Rattle.expressions.specs.Intersection.{meeting, nodesMeeting}
 use Rattle.expressions.proofs.Unification.{bound}
-use Rattle.sets.proofs.RestrictionLaws.{Front}
+use Rattle.restrictions.proofs.RestrictionLaws.{Front}
 use Rattle.heap.specs.twins.Contracted.{Stores, contractedFrom}
 use Rattle.compaction.specs.twins.Compacting.{Compaction, compacted}
 use Rattle.runs.proofs.RunLaws.{Below, below-self}

@@ -16,7 +16,7 @@ use Rattle.expressions.specs.Intersection.{Meeting, meeting, nodesMeeting}
 use Rattle.heap.specs.twins.Entries.{entryFrom, entryTo, nodesFrom}
 use Rattle.meetings.specs.twins.Classes.{outputEntry, wantedEntry, classNodes}
 use Rattle.meetings.specs.declared.class.Class.{Class}
-use Rattle.sets.proofs.RestrictionLaws.{Front}
+use Rattle.restrictions.proofs.RestrictionLaws.{Front}
 use Rattle.heap.proofs.HeapLaws.{Holds, nodes-positive}
 use Rattle.heap.proofs.FrameLaws.{Held, more}
 use Rattle.heap.proofs.NodeLaws.{holds-nodes, held-nodes}

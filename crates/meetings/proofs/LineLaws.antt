@@ -12,7 +12,7 @@ use Rattle.expressions.specs.Intersection.{meeting}
 use Rattle.sets.specs.twins.Copying.{CopyAnswer, copied}
 use Rattle.sets.specs.Cells.{cells, cellsAll, restrictionCells}
 use Rattle.sets.proofs.CellLaws.{cells-nodes, cellsAll-nodes, restrictionCells-nodes, copied-done}
-use Rattle.sets.proofs.RestrictionLaws.{front-room}
+use Rattle.restrictions.proofs.RestrictionLaws.{front-room}
 use Rattle.heap.specs.twins.Entries.{entryFrom, entryTo}
 use Rattle.heap.proofs.HeapLaws.{Holds, nodes-positive}
 use Rattle.heap.proofs.FrameLaws.{Held, none, more}

@@ -17,9 +17,9 @@ use Rattle.expressions.proofs.Combination.{simplify-idempotent}
 use Rattle.expressions.proofs.Unification.{bound}
 use Rattle.expressions.proofs.Disagreement.{IsIdentity, disagreement-identity}
 use Rattle.sets.specs.Cells.{evarCode, avarCode, atomicCode, cells}
-use Rattle.sets.specs.twins.Restricting.{RestrictAnswer, bindCells}
+use Rattle.restrictions.specs.twins.Restricting.{RestrictAnswer, bindCells}
 use Rattle.sets.proofs.ContractionLaws.{code-tag}
-use Rattle.sets.proofs.RestrictionLaws.{Answers, bindCells-means}
+use Rattle.restrictions.proofs.RestrictionLaws.{Answers, bindCells-means}
 use Rattle.heap.specs.twins.Moving.{boundRestriction}
 use Rattle.runs.proofs.RunLaws.{Below, below-self, run-cons}
 use Rattle.heap.proofs.HeapLaws.{Holds, filling-e, filling-a}

@@ -6,7 +6,7 @@ use crate::class::Step;
 use cells::cell;
 use heap::apply::bind_restriction;
 use heap::contract;
-use sets::restriction::Restricted;
+use restrictions::restriction::Restricted;
 ghost use mathlib.Core.Path.{_≡_};
 ghost use Rattle.meetings.specs.twins.Binding.{bound, stepLeft, entriesBound, variableBound};
 

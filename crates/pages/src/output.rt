@@ -5,14 +5,17 @@ use cells::part::part;
 use libc::EAGAIN;
 use libc::EINTR;
 use libc::STDOUT_FILENO;
+use print::first::Listed;
 use print::first::list_first;
+use print::first::list_first_sampled;
 use resolve::list;
 use resolve::run;
 ghost use mathlib.Core.Bool.{true};
 ghost use mathlib.Core.Path.{_≡_};
 ghost use Prim.Native.Nat.{_≤_, min};
 ghost use lib.ListN.{length};
-ghost use Rattle.print.specs.twins.ListedText.{listedText};
+ghost use Rattle.resolve.specs.ListAnswer.{listLeft};
+ghost use Rattle.print.specs.twins.ListedText.{listedWith};
 ghost use Rattle.print.specs.twins.RanText.{ranText};
 ghost use Rattle.pages.specs.Written.{listed, listedBytes, ran, ranBytes};
 
@@ -79,8 +82,10 @@ fn write_page(page: &[u8; 65536], n: usize) -> usize
 }
 
 // Page after page of a listing, whose first page is there: `first` bytes of it are text. The lines have at most 16,384 nodes, of at most 40
-// bytes each with what is printed around them, and 256 numbers: 64 pages hold them.
+// bytes each with what is printed around them, and 256 numbers: 64 pages hold them. Samples have no more nodes than their lines, and names of no more
+// bytes than symbols: 128 pages hold both.
 fn write_list(
+    samples: bool,
     program: &[u8],
     job: &[u8],
     answer: answers::list::Answer,
@@ -88,12 +93,12 @@ fn write_list(
     first: usize,
     page: &mut [u8; 65536],
 ) -> Written
-    requires { ⌜ first ≡ min 65536 (length (listedText (now program) (now job) (now cells) answer)) ⌝ }
-    ensures { λ r. ⌜ (r .whole ≡ true → r .bytes ≡ length (listedText (now (program .entry)) (now (job .entry)) (now (cells .entry)) answer)) ⌝ }
+    requires { ⌜ first ≡ min 65536 (length (listedWith samples (now program) (now job) (now cells) answer)) ⌝ }
+    ensures { λ r. ⌜ (r .whole ≡ true → r .bytes ≡ length (listedWith samples (now (program .entry)) (now (job .entry)) (now (cells .entry)) answer)) ⌝ }
 {
     let mut n = first;
     let mut bytes: usize = 0;
-    for k in 0..64u32 {
+    for k in 0..128u32 {
         let taken = write_page(page, n);
         bytes += taken;
         if taken < n {
@@ -108,7 +113,7 @@ fn write_list(
                 whole: true,
             };
         }
-        n = list_page(program, job, answer, cells, k + 1, page);
+        n = list_page(samples, program, job, answer, cells, k + 1, page);
     }
     Written {
         bytes: bytes,
@@ -141,18 +146,35 @@ fn write_run(program: &[u8], job: &[u8], answer: run_answers::run::Answer, cells
     }
 }
 
-// Writes the listing of the two texts.
-pub fn list_texts(program: &[u8], job: &[u8]) -> ListWritten
-    ensures { λ r. ⌜ (r .answer ≡ listed (now (program .entry)) (now (job .entry))) × (r .written .whole ≡ true → r .written .bytes ≡ listedBytes (now (program .entry)) (now (job .entry))) ⌝ }
+// The listing, and its first page.
+fn first_page(
+    samples: bool,
+    program: &[u8],
+    job: &[u8],
+    work: &mut [u16],
+    answer: &mut [u16],
+    page: &mut [u8; 65536],
+) -> Listed
+    ensures { λ r. ⌜ (let w = listLeft (now (program .entry)) (now (job .entry)) (now (work .entry)) (now (answer .entry)) in (r .answer ≡ w .answer) × (now (answer .exit) ≡ w .cells) × (r .bytes ≡ min 65536 (length (listedWith samples (now (program .entry)) (now (job .entry)) (w .cells) (w .answer))))) ⌝ }
+{
+    if samples {
+        return list_first_sampled(program, job, work, answer, page);
+    }
+    list_first(program, job, work, answer, page)
+}
+
+// Writes the listing of the two texts, with samples where they are called for (02, request 2).
+pub fn list_texts(samples: bool, program: &[u8], job: &[u8]) -> ListWritten
+    ensures { λ r. ⌜ (r .answer ≡ listed (now (program .entry)) (now (job .entry))) × (r .written .whole ≡ true → r .written .bytes ≡ listedBytes samples (now (program .entry)) (now (job .entry))) ⌝ }
 {
     let mut work_space = [0u16; list::WORK];
     let mut answer_space = [0u16; list::ANSWER];
     let work: &mut [u16] = &mut work_space;
     let answer: &mut [u16] = &mut answer_space;
     let mut page = io::large_buffer();
-    let listed = list_first(program, job, work, answer, &mut page);
+    let listed = first_page(samples, program, job, work, answer, &mut page);
     let said = listed.answer;
-    let written = write_list(program, job, said, answer, listed.bytes, &mut page);
+    let written = write_list(samples, program, job, said, answer, listed.bytes, &mut page);
     ListWritten {
         written: written,
         answer: said,

@@ -4,6 +4,8 @@ pub mod BindingLaws
 pub mod LineLaws
 pub mod OutcomeLaws
 pub mod NameLaws
+pub mod AlikeLaws
+pub mod SampleLaws
 pub mod ListTurns
 pub mod PrintedTexts
 pub mod Printed

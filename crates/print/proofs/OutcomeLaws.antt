@@ -32,7 +32,7 @@ answerOf (value s v) = valueCells v
 answerOf ranOver = []
 answerOf notWithin = []
 
-print-embed : (ns : List Word) (v : Value) → print ns (embed v) ≡ printValue ns v
+pub print-embed : (ns : List Word) (v : Value) → print ns (embed v) ≡ printValue ns v
 print-embed ns (atom z) = refl
 print-embed ns (cons u v) = ap₂ (λ (a b : List ℕ). txt "(cons " ++ a ++ (32 ∷ b) ++ (41 ∷ [])) (print-embed ns u) (print-embed ns v)
 

@@ -1,7 +1,7 @@
 -- What the entries leave, printed, is the text of the definitions.
 use Prim.Native.Nat.{ℕ, _+_, _-_, _*_, _≤_, min}
 use mathlib.Core.Path.{_≡_, refl, ap, ap₂, _∙_, sym as inv}
-use mathlib.Core.Bool.{true, false}
+use mathlib.Core.Bool.{Bool, true, false}
 use mathlib.Core.List.{List, [], _++_, append-assoc}
 use native.Mathlib.Omega.{arith}
 use lib.ListN.{length, take, drop, replicate, length-append}
@@ -25,7 +25,7 @@ use Rattle.semantics.specs.Walk.{stop21, stop22, stop23, Word, whole, cut, stop
 use Rattle.semantics.specs.Answer as meaning
 use Rattle.semantics.specs.Answer.{answered, walked, ran, Listed, list, run}
 use Rattle.semantics.proofs.AcceptedTexts.{run-answer, list-answer}
-use Rattle.listing.specs.Text.{printRefusal, printRefusalOfNeither, listText, runText}
+use Rattle.listing.specs.Text.{printRefusal, printRefusalOfNeither, listText, sampledText, runText}
 use Rattle.lent.specs.Storage.{zeros}
 use Rattle.reading.specs.twins.BothCells.{BothAnswer, bothOver}
 use Rattle.reading.proofs.BothRead.{zeros-length, leaving, refusedTexts, taken, texts-by-reading}
@@ -52,7 +52,7 @@ use Rattle.print.specs.twins.Names.{foundIn, textNames}
 use Rattle.print.specs.twins.ListingText.{walkWord}
 use Rattle.writer.specs.twins.OutcomeText.{outcomeText}
 use Rattle.print.specs.twins.RanText.{namedText, ranText}
-use Rattle.print.specs.twins.ListedText.{readListing, namedListing, headedText, listedText}
+use Rattle.print.specs.twins.ListedText.{readListing, namedListing, headedText, listedWith, listedText, sampledListed, textWith}
 use Rattle.print.proofs.OutcomeLaws.{answerOf as cellsOf, outcomeOf}
 use Rattle.print.proofs.PrintedTexts.{listing-text, outcome-text, list-refusal-text, run-refusal-text}
 
@@ -81,17 +81,17 @@ laid-front P h room =
     ap (λ (k : ℕ). take k (jobHeap P h)) (inv (length-append A B)) ∙ ap (λ (w : List ℕ). take (length (A ++ B)) (sets h 0 w)) (inv (append-assoc A B C)) ∙ front-kept (A ++ B) C h (omega (arith, length-append A B))
 
 module _ (program job : List ℕ) where
-  -- The listing, by what is read of the texts.
-  abbrev listedBy : BothAnswer → List ℕ → Answer → List ℕ
-  listedBy w d a = headedText (readListing program job w d) (headingOf a)
+  -- The listing, by what is read of the texts, with samples or without.
+  abbrev listedBy : Bool → BothAnswer → List ℕ → Answer → List ℕ
+  listedBy samples w d a = headedText (readListing samples program job w d) (headingOf a)
 
-  listed-is : (d : List ℕ) (a : Answer) → listedText program job d a ≡ listedBy (bothOver false program job (replicate 8194 0)) d a
+  listed-is : (samples : Bool) (d : List ℕ) (a : Answer) → listedWith samples program job d a ≡ listedBy samples (bothOver false program job (replicate 8194 0)) d a
   unfolding namedListing
-  listed-is d a = refl
+  listed-is samples d a = refl
 
-  module _ (p : SProg) (j : SJob) (e : reading lister program job ≡ accepted p j) (s : State) (u : State) (g : JobStored program job (symbolsOf [] program) u j) (room : 2048 ≤ length (u .symbols)) (x rest : List ℕ) where
+  module _ (p : SProg) (j : SJob) (e : reading lister program job ≡ accepted p j) (s : State) (u : State) (g : JobStored program job (symbolsOf [] program) u j) (room : 2048 ≤ length (u .symbols)) (x rest : List ℕ) (samples : Bool) where
     named-text : (word : FirstWord) → walkWord word ≡ wordOf (walked p j) →
-        readListing program job (taken s u j x) (linesCells (linesOf (walked p j)) ++ rest) word (length (linesOf (walked p j))) (countOf (walked p j)) ≡ listText program job
+        readListing samples program job (taken s u j x) (linesCells (linesOf (walked p j)) ++ rest) word (length (linesOf (walked p j))) (countOf (walked p j)) ≡ textWith samples program job
     named-text word f =
         let numbers = accepted-numbers lister program job p j e .job in
         let atomic = accepted-sides lister program job p j e in
@@ -104,46 +104,53 @@ module _ (program job : List ℕ) where
         let b = cells-nodes (class j .con .out) in
         let c = restrictionCells-nodes (class j .neqs) in
         let l = job-laid _ _ _ (class j) (replicate 4097 0) here (omega (arith, short .0, short .1)) in
-        rw (l, laid-front (class j) (replicate 4097 0) (omega (arith, short .0, zeros-length 4097))) (listing-text program job p j u g room e word f rest)
+        rw (l, laid-front (class j) (replicate 4097 0) (omega (arith, short .0, zeros-length 4097))) (listing-text program job p j u g room e samples word f rest)
 
     worded-text : (w : Word) → w ≡ wordOf (walked p j) →
-        listedBy (taken s u j x) (linesCells (linesOf (walked p j)) ++ rest) (worded w (length (linesOf (walked p j))) (countOf (walked p j))) ≡ listText program job
+        listedBy samples (taken s u j x) (linesCells (linesOf (walked p j)) ++ rest) (worded w (length (linesOf (walked p j))) (countOf (walked p j))) ≡ textWith samples program job
     worded-text whole f = named-text WholeWord f
     worded-text cut f = named-text CutWord f
     worded-text (stop stop21) f = named-text Word21 f
     worded-text (stop stop22) f = named-text Word22 f
     worded-text (stop stop23) f = named-text Word23 f
 
-  module _ (d : List ℕ) where
-    refused-printed : (t : Text) (r : Refusal) → reading lister program job ≡ rejected t r → (w : BothAnswer) → listedBy w (cellsAfter (list program job) d) (answerOf (list program job)) ≡ listText program job
+  module _ (samples : Bool) (d : List ℕ) where
+    refused-printed : (t : Text) (r : Refusal) → reading lister program job ≡ rejected t r → (w : BothAnswer) → listedBy samples w (cellsAfter (list program job) d) (answerOf (list program job)) ≡ textWith samples program job
     unfolding list
-    refused-printed ofProgram r e w = rw e (list-refusal-text program job ofProgram r e)
-    refused-printed ofJob r e w = rw e (list-refusal-text program job ofJob r e)
+    refused-printed ofProgram r e w = rw e (list-refusal-text program job ofProgram r samples e)
+    refused-printed ofJob r e w = rw e (list-refusal-text program job ofJob r samples e)
 
     -- x is the storage that is lent for the names
     module _ (x : List ℕ) where
       accepted-printed : (p : SProg) (j : SJob) → reading lister program job ≡ accepted p j → (s : State) → ProgramStored program s p → (u : State) → JobStored program job (symbolsOf [] program) u j → s .i ≤ length (s .ats) → 2048 ≤ length (u .symbols) →
-          listedBy (taken s u j (zeros x)) (cellsAfter (list program job) d) (answerOf (list program job)) ≡ listText program job
+          listedBy samples (taken s u j (zeros x)) (cellsAfter (list program job) d) (answerOf (list program job)) ≡ textWith samples program job
       accepted-printed p j e s h u g few room =
           let ls = linesOf (walked p j) in
-          ap (λ (a : meaning.Answer Listed). listedBy (taken s u j (zeros x)) (cellsAfter a d) (answerOf a)) (list-answer program job p j e)
-          ∙ worded-text p j e s u g room (zeros x) (replicate (length d - length (linesCells ls)) 0) (wordOf (walked p j)) refl
+          ap (λ (a : meaning.Answer Listed). listedBy samples (taken s u j (zeros x)) (cellsAfter a d) (answerOf a)) (list-answer program job p j e)
+          ∙ worded-text p j e s u g room (zeros x) (replicate (length d - length (linesCells ls)) 0) samples (wordOf (walked p j)) refl
 
-      read-printed : 8194 ≤ length x → listedBy (bothOver false program job x) (cellsAfter (list program job) d) (answerOf (list program job)) ≡ listText program job
+      read-printed : 8194 ≤ length x → listedBy samples (bothOver false program job x) (cellsAfter (list program job) d) (answerOf (list program job)) ≡ textWith samples program job
       read-printed l =
-          texts-by-reading false program job x l (λ w. listedBy w (cellsAfter (list program job) d) (answerOf (list program job))) (λ r. listText program job)
+          texts-by-reading false program job x l (λ w. listedBy samples w (cellsAfter (list program job) d) (answerOf (list program job))) (λ r. textWith samples program job)
           (λ t r e marks nums ends heads jmarks jnums symbols. refused-printed t r e (leaving (refusedTexts t r) marks nums ends heads jmarks jnums symbols (zeros x))) accepted-printed
 
   -- "After whole or cut the answer storage holds the listing": what `list` leaves is printed as the listing of the two texts, by texts that are
   -- read again or that were read before.
   module _ (work d : List ℕ) (long : tooShort work d ≡ false) where
-    pub list-printed : let w = listLeft program job work d in listedText program job (w .cells) (w .answer) ≡ listText program job
+    pub with-printed : (samples : Bool) → let w = listLeft program job work d in listedWith samples program job (w .cells) (w .answer) ≡ textWith samples program job
     unfolding listLeft
-    list-printed = rw long (listed-is (cellsAfter (list program job) d) (answerOf (list program job)) ∙ read-printed d (replicate 8194 0) wide)
+    with-printed samples = rw long (listed-is samples (cellsAfter (list program job) d) (answerOf (list program job)) ∙ read-printed samples d (replicate 8194 0) wide)
 
-    pub first-printed : 8194 ≤ length work → let w = listLeft program job work d in headedText (readListing program job (bothOver false program job work) (w .cells)) (headingOf (w .answer)) ≡ listText program job
+    pub list-printed : let w = listLeft program job work d in listedText program job (w .cells) (w .answer) ≡ listText program job
+    list-printed = with-printed false
+
+    -- the same with samples
+    pub sampled-printed : let w = listLeft program job work d in sampledListed program job (w .cells) (w .answer) ≡ sampledText program job
+    sampled-printed = with-printed true
+
+    pub first-printed : (samples : Bool) → 8194 ≤ length work → let w = listLeft program job work d in headedText (readListing samples program job (bothOver false program job work) (w .cells)) (headingOf (w .answer)) ≡ textWith samples program job
     unfolding listLeft
-    first-printed l = rw long (read-printed d work l)
+    first-printed samples l = rw long (read-printed samples d work l)
 
   -- The line of a run, by what is read of the texts.
   abbrev ranNamed : BothAnswer → List ℕ → Outcome → List ℕ
@@ -202,6 +209,11 @@ module _ (program job : List ℕ) where
         (let text = listedText program job c a in (r ≡ min n (length text - from)) × (out ≡ windowed n from text))
         × ((work d : List ℕ) → tooShort work d ≡ false → c ≡ listLeft program job work d .cells → a ≡ listLeft program job work d .answer → listedText program job c a ≡ listText program job)
     list-promised a h = ((h .0, h .1), λ work d long e f. ap₂ (λ (x : List ℕ) (z : Answer). listedText program job x z) e f ∙ list-printed work d long)
+
+    pub sampled-promised : (a : Answer) → Printed n from (sampledListed program job c a) r out →
+        (let text = sampledListed program job c a in (r ≡ min n (length text - from)) × (out ≡ windowed n from text))
+        × ((work d : List ℕ) → tooShort work d ≡ false → c ≡ listLeft program job work d .cells → a ≡ listLeft program job work d .answer → sampledListed program job c a ≡ sampledText program job)
+    sampled-promised a h = ((h .0, h .1), λ work d long e f. ap₂ (λ (x : List ℕ) (z : Answer). sampledListed program job x z) e f ∙ sampled-printed work d long)
 
     pub run-promised : (a : RunAnswer) → Printed n from (ranText program job c a) r out →
         (let text = ranText program job c a in (r ≡ min n (length text - from)) × (out ≡ windowed n from text))

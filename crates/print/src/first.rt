@@ -20,12 +20,12 @@ ghost use Rattle.resolve.specs.ListAnswer.{tooShort, listLeft};
 ghost use Rattle.resolve.specs.ListDemand.{Answered, StoredListing};
 ghost use Rattle.resolve.specs.twins.ListCells.{ListOut, listTexts};
 ghost use Rattle.window.specs.Windows.{windowed, Printed};
-ghost use Rattle.listing.specs.Text.{printRefusal, listText};
+ghost use Rattle.listing.specs.Text.{printRefusal, listText, sampledText};
 ghost use Rattle.reading.specs.twins.BothCells.{bothOver};
 ghost use Rattle.answers.specs.declared.list.Answer.the-variants.{Short};
 ghost use mathlib.Core.Bool.{false};
 ghost use Rattle.answers.specs.Headings.{headingOf};
-ghost use Rattle.print.specs.twins.ListedText.{termsLeft, readListing, headedText, SaidOut, listedText};
+ghost use Rattle.print.specs.twins.ListedText.{termsLeft, readListing, headedText, SaidOut, listedWith, listedText, sampledListed, textWith};
 
 // What `list` answers, and how many bytes of the lent page are text.
 pub struct Listed {
@@ -74,8 +74,9 @@ fn first_texts(
     work: &mut [u16],
     answer: &mut [u16],
     out: &mut [u8],
+    samples: bool,
 ) -> Listed
-    ensures { λ r. ⌜ ListOut (r .answer) (now (work .exit)) (now (answer .exit)) (listTexts (now (program .entry)) (now (job .entry)) (now (work .entry)) (now (answer .entry))) × Printed (length (now (out .entry))) 0 (headedText (readListing (now (program .entry)) (now (job .entry)) (bothOver false (now (program .entry)) (now (job .entry)) (now (work .entry))) (now (answer .exit))) (headingOf (r .answer))) (r .bytes) (now (out .exit)) ⌝ }
+    ensures { λ r. ⌜ ListOut (r .answer) (now (work .exit)) (now (answer .exit)) (listTexts (now (program .entry)) (now (job .entry)) (now (work .entry)) (now (answer .entry))) × Printed (length (now (out .entry))) 0 (headedText (readListing samples (now (program .entry)) (now (job .entry)) (bothOver false (now (program .entry)) (now (job .entry)) (now (work .entry))) (now (answer .exit))) (headingOf (r .answer))) (r .bytes) (now (out .exit)) ⌝ }
 {
     let mut marks: [u16; 4097] = [0; 4097];
     let mut nums: [u16; 4097] = [0; 4097];
@@ -98,7 +99,7 @@ fn first_texts(
         &mut symbols,
         work,
     );
-    let sizes = job_terms(both, &jmarks, &jnums, &mut terms);
+    let sizes = job_terms(both, &jmarks, &jnums, &mut terms, samples);
     let said = list_read(both, &marks, &nums, &ends, &heads, &jmarks, &jnums, answer);
     let bytes = print_said(program, job, &symbols, &terms, sizes, said, answer, out);
     Listed {
@@ -118,6 +119,23 @@ fn short(out: &mut [u8]) -> Listed
     }
 }
 
+// What the two entries do, with samples or without.
+fn list_page(
+    program: &[u8],
+    job: &[u8],
+    work: &mut [u16],
+    answer: &mut [u16],
+    out: &mut [u8],
+    samples: bool,
+) -> Listed
+    ensures { λ r. ⌜ (let w = listLeft (now (program .entry)) (now (job .entry)) (now (work .entry)) (now (answer .entry)) in let text = listedWith samples (now (program .entry)) (now (job .entry)) (w .cells) (w .answer) in ((r .answer ≡ w .answer) × (now (work .exit) ≡ w .work) × (now (answer .exit) ≡ w .cells)) × ((r .bytes ≡ min (length (now (out .entry))) (length text)) × (now (out .exit) ≡ windowed (length (now (out .entry))) 0 text))) × (tooShort (now (work .entry)) (now (answer .entry)) ≡ false → (let w = listLeft (now (program .entry)) (now (job .entry)) (now (work .entry)) (now (answer .entry)) in listedWith samples (now (program .entry)) (now (job .entry)) (w .cells) (w .answer) ≡ textWith samples (now (program .entry)) (now (job .entry)))) × ((s : SProg) (t : SJob) → reading lister (now (program .entry)) (now (job .entry)) ≡ accepted s t → Answered (r .answer) → StoredListing (prog s) (class t) (t .steps .num) (limits t) (r .answer) (now (answer .exit))) ⌝ }
+{
+    if short_for_lines(work, answer) {
+        return short(out);
+    }
+    first_texts(program, job, work, answer, out, samples)
+}
+
 // `resolve::list`, and in `out` the text that `print_list` prints of what it leaves, from its first byte on, as many bytes as there is room for,
 // then zeros: where the storages are long enough, that of the listing of the two texts. The texts are read once.
 pub fn list_first(
@@ -129,8 +147,18 @@ pub fn list_first(
 ) -> Listed
     ensures { λ r. ⌜ (let w = listLeft (now (program .entry)) (now (job .entry)) (now (work .entry)) (now (answer .entry)) in let text = listedText (now (program .entry)) (now (job .entry)) (w .cells) (w .answer) in ((r .answer ≡ w .answer) × (now (work .exit) ≡ w .work) × (now (answer .exit) ≡ w .cells)) × ((r .bytes ≡ min (length (now (out .entry))) (length text)) × (now (out .exit) ≡ windowed (length (now (out .entry))) 0 text))) × (tooShort (now (work .entry)) (now (answer .entry)) ≡ false → (let w = listLeft (now (program .entry)) (now (job .entry)) (now (work .entry)) (now (answer .entry)) in listedText (now (program .entry)) (now (job .entry)) (w .cells) (w .answer) ≡ listText (now (program .entry)) (now (job .entry)))) × ((s : SProg) (t : SJob) → reading lister (now (program .entry)) (now (job .entry)) ≡ accepted s t → Answered (r .answer) → StoredListing (prog s) (class t) (t .steps .num) (limits t) (r .answer) (now (answer .exit))) ⌝ }
 {
-    if short_for_lines(work, answer) {
-        return short(out);
-    }
-    first_texts(program, job, work, answer, out)
+    list_page(program, job, work, answer, out, false)
+}
+
+// The same with the text that `print_sampled` prints.
+pub fn list_first_sampled(
+    program: &[u8],
+    job: &[u8],
+    work: &mut [u16],
+    answer: &mut [u16],
+    out: &mut [u8],
+) -> Listed
+    ensures { λ r. ⌜ (let w = listLeft (now (program .entry)) (now (job .entry)) (now (work .entry)) (now (answer .entry)) in let text = sampledListed (now (program .entry)) (now (job .entry)) (w .cells) (w .answer) in ((r .answer ≡ w .answer) × (now (work .exit) ≡ w .work) × (now (answer .exit) ≡ w .cells)) × ((r .bytes ≡ min (length (now (out .entry))) (length text)) × (now (out .exit) ≡ windowed (length (now (out .entry))) 0 text))) × (tooShort (now (work .entry)) (now (answer .entry)) ≡ false → (let w = listLeft (now (program .entry)) (now (job .entry)) (now (work .entry)) (now (answer .entry)) in sampledListed (now (program .entry)) (now (job .entry)) (w .cells) (w .answer) ≡ sampledText (now (program .entry)) (now (job .entry)))) × ((s : SProg) (t : SJob) → reading lister (now (program .entry)) (now (job .entry)) ≡ accepted s t → Answered (r .answer) → StoredListing (prog s) (class t) (t .steps .num) (limits t) (r .answer) (now (answer .exit))) ⌝ }
+{
+    list_page(program, job, work, answer, out, true)
 }

@@ -8,6 +8,7 @@ use layout::job::Laid;
 use layout::job::lay_job;
 use reading::both::Both;
 use reading::both::read_both;
+use samples::names::name_table;
 use window::parts::front;
 use window::sink;
 use window::sink::Place;
@@ -19,12 +20,12 @@ ghost use mathlib.Core.Bool.{false};
 ghost use mathlib.Core.List.{List};
 ghost use Prim.Native.Nat.{ℕ, _-_, min};
 ghost use lib.ListN.{length};
-ghost use Rattle.listing.specs.Text.{listText};
+ghost use Rattle.listing.specs.Text.{listText, sampledText};
 ghost use Rattle.resolve.specs.ListAnswer.{tooShort, listLeft};
 ghost use Rattle.window.specs.Windows.{windowed};
 ghost use Rattle.window.specs.twins.Sink.{Wrote};
 ghost use Rattle.print.specs.twins.ListingText.{wordText, firstText};
-ghost use Rattle.print.specs.twins.ListedText.{termsLeft, jobTerms, termsListing, namedListing, listedText};
+ghost use Rattle.print.specs.twins.ListedText.{termsLeft, jobTerms, tableListing, termsListing, namedListing, listedText, sampledListed};
 
 fn put_word(out: &mut [u8], place: Place, word: Word) -> Place
     ensures { λ r. ⌜ Wrote place (now (out .entry)) (wordText word) r (now (out .exit)) ⌝ }
@@ -58,10 +59,61 @@ fn put_first(out: &mut [u8], place: Place, first: FirstLine) -> Place
     sink::put_byte(out, q, b'\n')
 }
 
-// How many symbols both texts have, and how many cells the job's inputs and output take.
+// How many symbols both texts have, how many cells the job's inputs and output take, and whether samples are called for.
 pub(crate) struct Terms {
     symbols: u16,
     cells: usize,
+    samples: bool,
+}
+
+// A listing, the symbols by the table of their names.
+fn print_by_names(
+    program: &[u8],
+    job: &[u8],
+    names: &[u16],
+    terms: &[u16],
+    sizes: Terms,
+    first: FirstLine,
+    answer: &[u16],
+    from: usize,
+    out: &mut [u8],
+) -> usize
+    ensures { λ r. ⌜ (let text = tableListing (now (program .entry)) (now (job .entry)) (now (names .entry)) (termsLeft sizes (now (terms .entry))) (now (answer .entry)) (first .word) (first .lines) (first .count) in (r ≡ min (length (now (out .entry))) (length text - from)) × (now (out .exit) ≡ windowed (length (now (out .entry))) from text)) ⌝ }
+{
+    let samples = sizes.samples;
+    sink::clear(out);
+    let start = sink::opened(from);
+    let p = put_first(out, start, first);
+    let job_cells = front(terms, sizes.cells);
+    let q = put_lines(
+        out,
+        p,
+        program,
+        job,
+        names,
+        job_cells,
+        first.lines,
+        answer,
+        samples,
+    );
+    sink::written(q)
+}
+
+// The same with samples: the table has names for new atoms too.
+fn print_by_all_names(
+    program: &[u8],
+    job: &[u8],
+    names: &[u16; 6144],
+    terms: &[u16],
+    sizes: Terms,
+    first: FirstLine,
+    answer: &[u16],
+    from: usize,
+    out: &mut [u8],
+) -> usize
+    ensures { λ r. ⌜ (let text = tableListing (now (program .entry)) (now (job .entry)) (now (names .entry)) (termsLeft sizes (now (terms .entry))) (now (answer .entry)) (first .word) (first .lines) (first .count) in (r ≡ min (length (now (out .entry))) (length text - from)) × (now (out .exit) ≡ windowed (length (now (out .entry))) from text)) ⌝ }
+{
+    print_by_names(program, job, names, terms, sizes, first, answer, from, out)
 }
 
 // The bytes of a listing's text from the byte `from` on, as many as `out` has room for, then zeros; how many they are. The job's inputs and
@@ -80,17 +132,35 @@ pub(crate) fn print_listing(
     ensures { λ r. ⌜ (let text = termsListing (now (program .entry)) (now (job .entry)) (now (symbols .entry)) (termsLeft sizes (now (terms .entry))) (now (answer .entry)) (first .word) (first .lines) (first .count) in (r ≡ min (length (now (out .entry))) (length text - from)) × (now (out .exit) ≡ windowed (length (now (out .entry))) from text)) ⌝ }
 {
     let table = front(symbols, 2 * (sizes.symbols as usize));
-    sink::clear(out);
-    let start = sink::opened(from);
-    let p = put_first(out, start, first);
-    let job_cells = front(terms, sizes.cells);
-    let q = put_lines(out, p, program, job, table, job_cells, first.lines, answer);
-    sink::written(q)
+    let samples = sizes.samples;
+    if samples {
+        let mut names: [u16; 6144] = [0; 6144];
+        name_table(program, job, table, &mut names);
+        return print_by_all_names(program, job, &names, terms, sizes, first, answer, from, out);
+    }
+    print_by_names(program, job, table, terms, sizes, first, answer, from, out)
+}
+
+// Of texts that are refused.
+fn no_terms(samples: bool) -> Terms
+    ensures { λ r. ⌜ r ≡ record { symbols = 0; cells = 0; samples = samples } ⌝ }
+{
+    Terms {
+        symbols: 0,
+        cells: 0,
+        samples: samples,
+    }
 }
 
 // The job's inputs and output, laid out again from its tokens. Nothing of texts that are refused.
-pub(crate) fn job_terms(both: Both, jmarks: &[u16], jnums: &[u16], terms: &mut [u16]) -> Terms
-    ensures { λ r. ⌜ termsLeft r (now (terms .exit)) ≡ jobTerms both (now (jmarks .entry)) (now (jnums .entry)) (now (terms .entry)) ⌝ }
+pub(crate) fn job_terms(
+    both: Both,
+    jmarks: &[u16],
+    jnums: &[u16],
+    terms: &mut [u16],
+    samples: bool,
+) -> Terms
+    ensures { λ r. ⌜ termsLeft r (now (terms .exit)) ≡ jobTerms samples both (now (jmarks .entry)) (now (jnums .entry)) (now (terms .entry)) ⌝ }
 {
     match both {
         Both::Accepted {
@@ -104,31 +174,24 @@ pub(crate) fn job_terms(both: Both, jmarks: &[u16], jnums: &[u16], terms: &mut [
                 Laid::Done(sizes) => Terms {
                     symbols: symbols,
                     cells: sizes.io,
+                    samples: samples,
                 },
                 Laid::Over => Terms {
                     symbols: symbols,
                     cells: 0,
+                    samples: samples,
                 },
             }
         }
         Both::Program {
             number: _,
             offset: _,
-        } => Terms {
-            symbols: 0,
-            cells: 0,
-        },
+        } => no_terms(samples),
         Both::Job {
             number: _,
             offset: _,
-        } => Terms {
-            symbols: 0,
-            cells: 0,
-        },
-        Both::Short => Terms {
-            symbols: 0,
-            cells: 0,
-        },
+        } => no_terms(samples),
+        Both::Short => no_terms(samples),
     }
 }
 
@@ -140,8 +203,9 @@ fn print_named(
     cells: &[u16],
     from: usize,
     out: &mut [u8],
+    samples: bool,
 ) -> usize
-    ensures { λ r. ⌜ (let text = namedListing (now (program .entry)) (now (job .entry)) (now (cells .entry)) (first .word) (first .lines) (first .count) in (r ≡ min (length (now (out .entry))) (length text - from)) × (now (out .exit) ≡ windowed (length (now (out .entry))) from text)) ⌝ }
+    ensures { λ r. ⌜ (let text = namedListing samples (now (program .entry)) (now (job .entry)) (now (cells .entry)) (first .word) (first .lines) (first .count) in (r ≡ min (length (now (out .entry))) (length text - from)) × (now (out .exit) ≡ windowed (length (now (out .entry))) from text)) ⌝ }
 {
     let mut marks: [u16; 4097] = [0; 4097];
     let mut nums: [u16; 4097] = [0; 4097];
@@ -165,7 +229,7 @@ fn print_named(
         &mut symbols,
         &mut work,
     );
-    let sizes = job_terms(both, &jmarks, &jnums, &mut terms);
+    let sizes = job_terms(both, &jmarks, &jnums, &mut terms, samples);
     print_listing(
         program,
         job,
@@ -193,7 +257,30 @@ pub fn print_list(
 {
     let heading = heading_of(answer);
     match heading {
-        Heading::Listing(first) => print_named(program, job, first, cells, from, out),
+        Heading::Listing(first) => { print_named(program, job, first, cells, from, out, false) }
+        Heading::Refusal {
+            letter,
+            number,
+            offset,
+        } => print_refusal(letter, number, offset, from, out),
+    }
+}
+
+// The same with a sample under each line: "each prints under its line as `(in D ..) (out D)`" (02, request 2). Of what `list` left and answered, the text
+// is that of the listing of the two texts with samples.
+pub fn print_sampled(
+    program: &[u8],
+    job: &[u8],
+    answer: Answer,
+    cells: &[u16],
+    from: usize,
+    out: &mut [u8],
+) -> usize
+    ensures { λ r. ⌜ (let text = sampledListed (now (program .entry)) (now (job .entry)) (now (cells .entry)) answer in (r ≡ min (length (now (out .entry))) (length text - from)) × (now (out .exit) ≡ windowed (length (now (out .entry))) from text)) × ((work d : List ℕ) → tooShort work d ≡ false → now (cells .entry) ≡ listLeft (now (program .entry)) (now (job .entry)) work d .cells → answer ≡ listLeft (now (program .entry)) (now (job .entry)) work d .answer → sampledListed (now (program .entry)) (now (job .entry)) (now (cells .entry)) answer ≡ sampledText (now (program .entry)) (now (job .entry))) ⌝ }
+{
+    let heading = heading_of(answer);
+    match heading {
+        Heading::Listing(first) => { print_named(program, job, first, cells, from, out, true) }
         Heading::Refusal {
             letter,
             number,

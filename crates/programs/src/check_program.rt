@@ -7,20 +7,21 @@ use crate::check_terms::term;
 use checker::check::Bodies;
 use checker::check::Defs;
 use checker::check::Names;
-use checker::check::Verdict;
-use checker::check::Walked;
-use checker::check::first;
 use checker::check::index;
-use checker::check::judge;
 use checker::check_expressions::is_named;
 use checker::places::ahead;
 use checker::places::key;
 use checker::places::num;
 use checker::places::offset;
+use verdicts::found::Verdict;
+use verdicts::found::Walked;
+use verdicts::found::first;
+use verdicts::found::in_order;
+use verdicts::found::judge;
 use words::keys::CLOSE_LIST;
 use words::keys::END;
 ghost use mathlib.Core.Path.{_≡_};
-ghost use Rattle.checker.specs.declared.check.Verdict.the-variants.{Fine};
+ghost use Rattle.verdicts.specs.declared.found.Verdict.the-variants.{Fine};
 ghost use Rattle.checker.specs.twins.CheckAt.{added, noDefs, noNames};
 ghost use Rattle.checker.specs.twins.CheckStored.{paramsAt, paramsEnd, paramsTwice, headTwice, walkedBody, defAt, defsAt, bodyAt, bodiesAt, programAt};
 
@@ -248,5 +249,5 @@ pub fn check_program(marks: &[u16], nums: &[u16], ats: &[u16], n: usize) -> Verd
     let found = bodies(marks, nums, ats, n, &ds.heads, count);
     let rebound = found.rebound;
     let uses = found.uses;
-    first(names, first(rebound, uses))
+    in_order(names, rebound, uses)
 }

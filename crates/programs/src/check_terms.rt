@@ -1,13 +1,6 @@
 // The check of terms by their tokens: 6 and 13 in `cons?`, 7, 8, 9 (01, "From the input"; 02, request 1). `heads`, `count` of them, are the definitions, each by
 // the index of its name; `cells`, `used` of them, are the names in reach. A branch writes its own behind these, and keeps these.
-use checker::check::Verdict;
-use checker::check::Walked;
-use checker::check::both;
-use checker::check::branched;
-use checker::check::called;
-use checker::check::first;
 use checker::check::index;
-use checker::check::judge;
 use checker::check_expressions::args;
 use checker::check_expressions::binding;
 use checker::check_expressions::ea;
@@ -18,6 +11,13 @@ use checker::places::ahead;
 use checker::places::key;
 use checker::places::num;
 use checker::places::offset;
+use verdicts::found::Verdict;
+use verdicts::found::Walked;
+use verdicts::found::branched;
+use verdicts::found::called;
+use verdicts::found::first;
+use verdicts::found::judge;
+use verdicts::truth::both;
 use words::keys::CALL;
 use words::keys::EQA;
 use words::keys::IF;

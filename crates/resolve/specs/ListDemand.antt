@@ -43,7 +43,7 @@ pub record StoredListing (p : Prog) (j : IOClass) (n : ℕ) (lim : Limits) (r : 
   pub listing : Walked
   pub lines : readLines (linesIn r) d ≡ linesOf listing
   pub answer : r ≡ worded (wordOf listing) (length (linesOf listing)) (countOf listing)
-  -- "an accepted program never gets stuck"
+  -- "an accepted program never gets stuck"; no configuration binds a bound name (02, request 1)
   pub neverStuck : TraceNeverStuck p j
   -- "exactly the lines of the published tracing rules .., in true-branch-first order; a stopped listing is a beginning of that one"
   pub traced : TracedLines p n j listing

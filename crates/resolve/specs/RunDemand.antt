@@ -29,7 +29,7 @@ pub record StoredRun (p : Prog) (n : ℕ) (is : List Value) (r : Answer) (d : Li
   pub ran : Ran
   pub answer : r ≡ answerOf (meaning.Answer.answered ran)
   pub stored : (m : ℕ) (v : Value) → ran ≡ value m v → readTree (lengthOf r) d .tree ≡ embed v
-  -- "an accepted program never gets stuck"
+  -- "an accepted program never gets stuck"; no state binds a bound name (02, request 1)
   pub neverStuck : NeverStuck p is
   -- "the runner gives the value and step count of the published evaluation rules of TSG"
   pub correct : RunnerCorrect p n is ran

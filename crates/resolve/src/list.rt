@@ -2,6 +2,7 @@
 // answers and leaves is defined in specs/ListAnswer.antt.
 use answers::list::Answer;
 use answers::list::Word;
+use answers::list::of_program;
 use answers::list::unstopped;
 use initial::begin::main_body;
 use lent::clear::clear;
@@ -69,7 +70,7 @@ pub fn list_read(
     ensures { λ r. ⌜ readLeft r (now (answer .exit)) ≡ listedRead both (now (marks .entry)) (now (nums .entry)) (now (ends .entry)) (now (heads .entry)) (now (jmarks .entry)) (now (jnums .entry)) (now (answer .entry)) ⌝ }
 {
     match both {
-        Both::Program { number, offset } => Answer::Program { number, offset },
+        Both::Program { number, offset } => of_program(number, offset),
         Both::Job { number, offset } => Answer::Job { number, offset },
         Both::Short => Answer::Short,
         Both::Accepted {

@@ -1,2 +1,3 @@
 -- What each function of the code answers and leaves, for storage of any content.
 pub mod Answers
+pub mod Writing

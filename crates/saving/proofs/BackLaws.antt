@@ -7,7 +7,7 @@ use lib.ListN.{length, take, drop, List·getD-append}
 use lib.Seq.{length-take-le, take-at, getD-take}
 use Rattle.expressions.specs.Expression.{Exp}
 use Rattle.expressions.specs.Restriction.{Restriction}
-use Rattle.sets.proofs.RestrictionLaws.{Front, front-room}
+use Rattle.restrictions.proofs.RestrictionLaws.{Front, front-room}
 use Rattle.runs.proofs.RunLaws.{Below, below-self}
 use Rattle.heap.proofs.FrameLaws.{Held, held-front}
 use Rattle.saving.specs.twins.Saving.{loaded}

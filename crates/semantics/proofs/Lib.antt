@@ -21,6 +21,8 @@ pub mod Visits
 pub mod StopUniqueness
 pub mod TraceProgress
 pub mod Demand3
+pub mod LineSymbols
+pub mod Renaming
 pub mod AcceptedTexts
 pub mod AcceptedStops
 pub mod WrongTools

@@ -13,7 +13,7 @@ use Rattle.expressions.specs.Contraction.{CRPair, InConcretization}
 use Rattle.expressions.specs.Class.{GroundPair, groundIO, IOClass, InClass}
 use Rattle.expressions.specs.Split.{firstFresh}
 use Rattle.expressions.proofs.Tests.{and-both}
-use Rattle.expressions.proofs.Simplification.{simplify-sound, simplify-complete, simplify-back, simplify-consistent, consistent-satisfiable}
+use Rattle.expressions.proofs.Simplification.{Consistent, simplify-sound, simplify-complete, simplify-back, simplify-consistent, consistent-satisfiable}
 use Rattle.expressions.proofs.Contracting.{Agree, Fresh}
 use Rattle.expressions.proofs.Numbering.{class-fresh}
 use Rattle.language.specs.Program.{Param, pe, pa, Prog, find}
@@ -48,6 +48,7 @@ pub record TableCorrect (p : Prog) (n : ℕ) (j : IOClass) (lines : List Line) (
   pub complete : (is : List Value) (o : Value) (m : ℕ) → InClass j is o → evaluate p n is ≡ some (m, o) → Any (λ L. InClass (L .class) is o) lines
   pub disjoint : AllPairs (λ L M. (is : List Value) (o : Value) → InClass (L .class) is o → InClass (M .class) is o → ⊥) lines
   pub nonempty : All (λ L. (is : List Value) × (o : Value) × InClass (L .class) is o) lines
+  pub consistent : All (λ L. Consistent (L .class .neqs)) lines
   pub cutIff : (cut ≡ true) ↔ ((is : List Value) × (o : Value) × InClass j is o × (evaluate p n is ≡ none))
 
 abbrev insOf : GroundPair → List Value
@@ -95,6 +96,7 @@ module _ (p : Prog) (n : ℕ) (j : IOClass) (fit : fits (find p 0 .params) (j .c
       disjoint = apart lines (x .apart determined);
       nonempty = all-map _ _ (λ L f. let w = consistent-satisfiable (L .class .neqs) (f .0) in
           (groundIO (w .0) (L .class .con) .ins, groundIO (w .0) (L .class .con) .out, record { θ = w .0; sat = w .1; is = refl })) lines (x .sound);
+      consistent = all-map _ _ (λ L f. f .0) lines (x .sound);
       cutIff = (
         (λ e. let w = x .cut-sound e in
             (groundAll (w .0) (j .con .ins), ground (w .0) (j .con .out), record { θ = w .0; sat = to-job (w .0) (w .1); is = refl }, inv (evaluate-is (w .0)) ∙ w .2)),
@@ -119,6 +121,7 @@ module _ (p : Prog) (n : ℕ) (j : IOClass) (fit : fits (find p 0 .params) (j .c
     complete = λ is o m M. absurd (no-class is o M);
     disjoint = tt;
     nonempty = tt;
+    consistent = tt;
     cutIff = ((λ c. absurd (false≢true c)), (λ w. absurd (no-class (w .0) (w .1) (w .2))));
   }
     where

@@ -3,5 +3,3 @@ pub mod CellLaws
 pub mod FillLaws
 pub mod CounterLaws
 pub mod ContractionLaws
-pub mod RestrictionTurns
-pub mod RestrictionLaws

@@ -3,4 +3,3 @@ pub mod Copying
 pub mod Fill
 pub mod Counting
 pub mod Contracting
-pub mod Restricting

@@ -3,5 +3,4 @@
 pub mod contraction;
 pub mod counter;
 pub mod fill;
-pub mod restriction;
 pub mod tree;

@@ -19,10 +19,10 @@ use Rattle.language.specs.Source.{SExp, symS, evarS, avarS, pairS, SParam, exp,
 use Rattle.language.specs.ProgramCheck.{reachE, reachEa, reachArgs}
 use Rattle.syntax.specs.twins.Standing.{WordAt, NameAt, ExpAt, symbolAt, consAt, ExpsAt, ParamsAt}
 use Rattle.syntax.specs.twins.Standing as at
-use Rattle.checker.specs.declared.check.Verdict.{Verdict}
-use Rattle.checker.specs.declared.check.Verdict.the-variants.{Fine, Fault}
-use Rattle.checker.specs.declared.check.Walked.{Walked}
-use Rattle.checker.specs.declared.check.Args.{Args}
+use Rattle.verdicts.specs.declared.found.Verdict.{Verdict}
+use Rattle.verdicts.specs.declared.found.Verdict.the-variants.{Fine, Fault}
+use Rattle.verdicts.specs.declared.found.Walked.{Walked}
+use Rattle.verdicts.specs.declared.found.Args.{Args}
 use Rattle.checker.specs.declared.check.Names.{Names}
 use Rattle.checker.specs.twins.CheckAt.{first, judge, ahead, walked, arguments, isNamed, inReach, leafAt, pairAt, pick, expAt, atomicAt, eaAt, argAt, argsAt}
 

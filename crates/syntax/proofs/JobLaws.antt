@@ -23,9 +23,9 @@ use Rattle.language.specs.Source.{SExp, symS, pairS, SParam, SJob, exp, exps, a
 use Rattle.language.specs.JobCheck.{Tool, lister, runner, groundVerdict, variables, kindsVerdict, standsIn, standsInAny, sideFits, sidesVerdict, jobVerdict}
 use Rattle.syntax.specs.twins.Standing.{WordAt, NameAt, ExpAt, symbolAt, consAt, ExpsAt, ParamsAt, SidesAt, JobAt, jobAt}
 use Rattle.syntax.specs.twins.Standing as at
-use Rattle.checker.specs.declared.check.Verdict.{Verdict}
-use Rattle.checker.specs.declared.check.Verdict.the-variants.{Fine}
-use Rattle.checker.specs.declared.check.Walked.{Walked}
+use Rattle.verdicts.specs.declared.found.Verdict.{Verdict}
+use Rattle.verdicts.specs.declared.found.Verdict.the-variants.{Fine}
+use Rattle.verdicts.specs.declared.found.Walked.{Walked}
 use Rattle.checker.specs.twins.CheckAt.{first, judge, ahead, walked, arguments}
 use Rattle.job_checker.specs.twins.JobCheckAt as check
 use Rattle.job_checker.specs.twins.JobCheckAt.{datumAt, inputsAt, markedFrom, standsFrom, sidesAt}

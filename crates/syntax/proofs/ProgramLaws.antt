@@ -22,12 +22,12 @@ use Rattle.language.specs.ProgramCheck.{termTwice, defsTwice, termRebound, defs
 use Rattle.language.specs.ProgramCheck as meaning
 use Rattle.syntax.specs.twins.Standing.{WordAt, NameAt, ConditionAt, eqaAt, conspAt, TermAt, callAt, ifAt, resultAt, ParamsAt, DefAt, defineAt, DefsAt, HeadsAt, DefsFrom, ProgramAt}
 use Rattle.syntax.specs.twins.Standing as at
-use Rattle.checker.specs.declared.check.Verdict.{Verdict}
-use Rattle.checker.specs.declared.check.Verdict.the-variants.{Fine, Fault}
+use Rattle.verdicts.specs.declared.found.Verdict.{Verdict}
+use Rattle.verdicts.specs.declared.found.Verdict.the-variants.{Fine, Fault}
 use Rattle.checker.specs.declared.check.Names.{Names}
 use Rattle.checker.specs.declared.check.Defs.{Defs}
 use Rattle.checker.specs.declared.check.Bodies.{Bodies}
-use Rattle.checker.specs.declared.check.Walked.{Walked}
+use Rattle.verdicts.specs.declared.found.Walked.{Walked}
 use Rattle.checker.specs.twins.CheckAt as check
 use Rattle.checker.specs.twins.CheckAt.{first, judge, ahead, noNames, push, paramsTwice, defsAt, bodiesAt, programAt}
 use Rattle.syntax.proofs.CheckLaws.{coded, coded-first, coded-judge, first-fine, first-assoc, ahead-in, is-other, keys, kinds, nums, ats, exp-least, exp-most, exps-bounds}

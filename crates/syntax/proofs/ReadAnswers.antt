@@ -17,7 +17,7 @@ use Rattle.language.specs.Reader.{Res, ok, refused, refuse, andThen, unlessFaul
 use Rattle.language.specs.Reading.{readText}
 use Rattle.words.specs.declared.got.Got.{Got}
 use Rattle.words.specs.declared.got.Got.the-variants.{Past, Refused}
-use Rattle.checker.specs.declared.check.Verdict.{Verdict}
+use Rattle.verdicts.specs.declared.found.Verdict.{Verdict}
 use Rattle.grammar.specs.twins.Positions.{onPast}
 use Rattle.words.specs.twins.Cutting.{scan, outsideAt, soundAt, shortAt, bytesAt}
 use Rattle.syntax.specs.twins.ReadAnswer.{verdictGot, answer, resGot, bytesGot}

@@ -21,9 +21,9 @@ use Rattle.language.specs.Source.{Stand, SExp, SCondition, eqaS, conspS, STerm,
 use Rattle.language.specs.ProgramCheck.{reachE, reachEa, reachArgs, conditionTwice, termTwice, newE, newA, termRebound, callVerdict, termVerdict}
 use Rattle.syntax.specs.twins.Standing.{WordAt, NameAt, ExpAt, symbolAt, consAt, ExpsAt, ConditionAt, TermAt, callAt, ifAt, resultAt, ParamsAt, DefAt, defineAt, HeadsAt}
 use Rattle.syntax.specs.twins.Standing as at
-use Rattle.checker.specs.declared.check.Verdict.{Verdict}
-use Rattle.checker.specs.declared.check.Verdict.the-variants.{Fine, Fault}
-use Rattle.checker.specs.declared.check.Walked.{Walked}
+use Rattle.verdicts.specs.declared.found.Verdict.{Verdict}
+use Rattle.verdicts.specs.declared.found.Verdict.the-variants.{Fine, Fault}
+use Rattle.verdicts.specs.declared.found.Walked.{Walked}
 use Rattle.checker.specs.declared.check.Names.{Names}
 use Rattle.checker.specs.twins.CheckAt as check
 use Rattle.checker.specs.twins.CheckAt.{first, judge, ahead, walked, push, expAt, placeAt, termAt}

@@ -1,8 +1,9 @@
 // Where what starts at a token ends, by the brackets (specs/twins/Ends.antt): for who skips a branch.
+use brackets::depth::is_outermost;
 use cells::cell::low;
 use cells::cell::put;
-use checker::check::either;
 use checker::places::key;
+use verdicts::truth::either;
 use words::keys::CLOSE;
 use words::keys::CLOSE_LIST;
 use words::keys::OPEN;
@@ -39,7 +40,7 @@ fn close_from(marks: &[u16], n: usize, from: usize) -> usize
             continue;
         }
         if is_close(marks, n, i) {
-            if depth <= 1 {
+            if is_outermost(depth) {
                 return i + 1;
             }
             depth -= 1;

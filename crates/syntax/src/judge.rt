@@ -1,10 +1,10 @@
 // What the grammar and the check find in a text's stored tokens: "3, 4, 5 at the earliest token", then 6 to 9 and 13 of a program, 10 to 12 of a
 // job (01, "From the input"; 02, request 1).
-use checker::check::Verdict;
 use grammar::definitions::program;
 use grammar::jobs::job;
 use job_checker::check_job::check_job;
 use programs::check_program::check_program;
+use verdicts::found::Verdict;
 use words::got::Got;
 ghost use mathlib.Core.Path.{_≡_};
 ghost use Rattle.syntax.specs.twins.ReadAnswer.{verdictGot, programJudged, jobJudged};

@@ -2,3 +2,4 @@
 pub mod list;
 mod numbers;
 pub mod run;
+pub mod sample;

@@ -6,7 +6,7 @@ use lent::read::Read;
 use lent::read::long_enough;
 use lexer::lexer::cut_tokens;
 use syntax::judge::judge_job;
-use words::bytes::sound_bytes;
+use words::bytes::sound_job;
 use words::got::Got;
 ghost use mathlib.Core.Path.{_≡_};
 ghost use mathlib.Core.Bool.{true};
@@ -14,9 +14,6 @@ ghost use Rattle.lexer.specs.twins.Lexed.{cutFrom, starting};
 ghost use Rattle.texts.specs.twins.ReadCells.{ReadOut, afterCut, jobCells, jobReading, ProgramLeft};
 ghost use Rattle.syntax.specs.twins.ReadAnswer.{jobJudged};
 ghost use Rattle.language.specs.Source.{SProg};
-
-// "A job has at most 8,192 bytes".
-const BYTES: usize = 8192;
 
 // A text of sound bytes, into storage that is long enough.
 fn cut_job(
@@ -79,7 +76,7 @@ pub fn read_job(
     if !long_enough(marks, nums, ats, symbols, names) {
         return Read::Short;
     }
-    let sound = sound_bytes(BYTES, text);
+    let sound = sound_job(text);
     match sound {
         Got::Refused { number, offset } => {
             clear_tokens(marks, nums, ats, symbols);

@@ -6,16 +6,13 @@ use lent::read::Read;
 use lent::read::long_enough;
 use lexer::lexer::cut_tokens;
 use syntax::judge::judge_program;
-use words::bytes::sound_bytes;
+use words::bytes::sound_program;
 use words::got::Got;
 ghost use mathlib.Core.Path.{_≡_};
 ghost use mathlib.Core.Bool.{false};
 ghost use Rattle.lexer.specs.twins.Lexed.{cutFrom, starting};
 ghost use Rattle.texts.specs.twins.ReadCells.{ReadOut, afterCut, programReading};
 ghost use Rattle.syntax.specs.twins.ReadAnswer.{programJudged};
-
-// "A program has at most 32,768 bytes".
-const BYTES: usize = 32768;
 
 // A text of sound bytes, into storage that is long enough.
 fn cut_program(
@@ -57,7 +54,7 @@ pub fn read_program(
     if !long_enough(marks, nums, ats, symbols, names) {
         return Read::Short;
     }
-    let sound = sound_bytes(BYTES, text);
+    let sound = sound_program(text);
     match sound {
         Got::Refused { number, offset } => {
             clear_tokens(marks, nums, ats, symbols);

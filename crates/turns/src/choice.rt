@@ -67,6 +67,13 @@ pub fn is_spent(walk: usize, f: Found) -> bool
     walk <= f.count
 }
 
+// "22 a line would be number T+1": how many lines may be kept.
+pub fn lines_kept(b: Bounds) -> usize
+    ensures { λ r. ⌜ r ≡ b .table ⌝ }
+{
+    b.table
+}
+
 // The way on from a node whose term has this mark.
 pub fn way_on(mark: u16, b: Bounds, n: Node) -> Way
     ensures { λ r. ⌜ r ≡ wayOn mark b n ⌝ }

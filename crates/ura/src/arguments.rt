@@ -48,6 +48,24 @@ fn first_file(commands: &[u8], e: Entry) -> usize {
     i
 }
 
+fn is_argument(i: usize, word: &[u8]) -> bool {
+    let mut space = io::buffer();
+    let n = os::arg(i, &mut space);
+    alike(part(&space, 0, n), word)
+}
+
+// Whether the option stands before argument `first`, the first file.
+fn is_given(first: usize, option: &[u8]) -> bool {
+    let mut i: usize = 2;
+    while i < first {
+        if is_argument(i, option) {
+            return true;
+        }
+        i += 1;
+    }
+    false
+}
+
 // `ura help`, `ura help COMMAND` and `ura help numbers`.
 fn help(commands: &[u8]) {
     if os::arg_count() == 2 {
@@ -80,7 +98,7 @@ fn of_files(commands: &[u8], e: Entry, runs: bool) {
         say::wrong_files(commands, e, given);
         return;
     }
-    files::of_files(first, runs);
+    files::of_files(first, runs, is_given(first, b"--samples"));
 }
 
 // What the first argument asks for.

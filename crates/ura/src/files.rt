@@ -71,8 +71,8 @@ fn explain_run(
     }
 }
 
-fn list_named(program_name: &[u8], program: &[u8], job_name: &[u8], job: &[u8]) {
-    let listed = list_texts(program, job);
+fn list_named(samples: bool, program_name: &[u8], program: &[u8], job_name: &[u8], job: &[u8]) {
+    let listed = list_texts(samples, program, job);
     let answer = listed.answer;
     let written = listed.written;
     report(written);
@@ -96,6 +96,7 @@ pub fn list_here() {
     let p = read_file(b"prog.tsg", program);
     let j = read_file(b"job.txt", job);
     list_named(
+        false,
         b"prog.tsg",
         part(program, 0, p),
         b"job.txt",
@@ -121,8 +122,8 @@ fn name_of(i: usize, name: &mut [u8]) -> usize {
     n
 }
 
-// The files that argument i and the next name, listed or run.
-pub fn of_files(i: usize, runs: bool) {
+// The files that argument i and the next name, listed, with samples where they are called for, or run.
+pub fn of_files(i: usize, runs: bool, samples: bool) {
     let mut program_name = io::buffer();
     let mut job_name = io::buffer();
     let mut program_space = [0u8; PROGRAM];
@@ -144,6 +145,7 @@ pub fn of_files(i: usize, runs: bool) {
         return;
     }
     list_named(
+        samples,
         names,
         part(program, 0, p),
         part(&job_name, 0, b),

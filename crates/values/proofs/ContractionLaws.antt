@@ -17,7 +17,7 @@ use Rattle.semantics.specs.Environment.{addE, addA}
 use Rattle.semantics.specs.Configuration.{state, applyEnv, nodesState}
 use Rattle.sets.specs.Cells.{pairCode}
 use Rattle.sets.specs.declared.fill.Filled.the-variants.{Done, Over as FilledOver}
-use Rattle.sets.proofs.RestrictionLaws.{Front}
+use Rattle.restrictions.proofs.RestrictionLaws.{Front}
 use Rattle.runs.specs.twins.Runs.{cellsAt}
 use Rattle.heap.specs.twins.Contracted.{Stores, contractedFrom, contractedEntries}
 use Rattle.heap.specs.twins.Moving.{boundCell, boundPair}

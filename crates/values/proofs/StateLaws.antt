@@ -14,7 +14,7 @@ use Rattle.expressions.specs.Restriction.{nodesRestriction}
 use Rattle.expressions.specs.Contraction.{CRPair}
 use Rattle.expressions.specs.Class.{nodesIO}
 use Rattle.expressions.proofs.Tests.{and-both}
-use Rattle.sets.proofs.RestrictionLaws.{Front}
+use Rattle.restrictions.proofs.RestrictionLaws.{Front}
 use Rattle.language.specs.Program.{Term, Param, pe, pa, sameParam, Prog}
 use Rattle.language.specs.Scope.{Scope, isIn, inScope, allInScope}
 use Rattle.semantics.specs.Environment.{Env, Binds}

@@ -23,9 +23,9 @@ use Rattle.semantics.proofs.Backtrack.{Choice, trailOf, PathState, onPath, with
 use Rattle.semantics.proofs.Paths.{trail-length}
 use Rattle.semantics.proofs.Soundness.{Small}
 use Rattle.semantics.proofs.Reaching.{branchOf, Reaches, here, byCall, byDecision, reaches-call, reaches-decision, reaches-steps}
-use Rattle.sets.specs.declared.restriction.Kind.{Kind}
-use Rattle.sets.specs.declared.restriction.Kind.the-variants.{Contradiction, Redundant, Kept as KeptAs}
-use Rattle.sets.specs.twins.Restricting.{kindCells}
+use Rattle.restrictions.specs.declared.restriction.Kind.{Kind}
+use Rattle.restrictions.specs.declared.restriction.Kind.the-variants.{Contradiction, Redundant, Kept as KeptAs}
+use Rattle.restrictions.specs.twins.Restricting.{kindCells}
 use Rattle.linking.specs.twins.Code.{linkAt}
 use Rattle.heap.specs.twins.Moving.{Move}
 use Rattle.heap.specs.declared.configuration.Branches.{Branches}

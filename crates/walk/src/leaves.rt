@@ -3,6 +3,7 @@ use lines::end::meet_end;
 use linking::code::link_at;
 use positions::position::Bounds;
 use turns::choice::is_result;
+use turns::choice::lines_kept;
 use turns::state::Leaving;
 use turns::state::State;
 use turns::state::after_end;
@@ -27,7 +28,8 @@ pub(crate) fn meet_leaf(
     let c = n.at;
     let l = link_at(code, c.place);
     if is_result(l.mark) {
-        let e = meet_end(code, heap, frame, q, answer, n, b.table, f.lines);
+        let table = lines_kept(b);
+        let e = meet_end(code, heap, frame, q, answer, n, table, f.lines);
         return after_end(s, e);
     }
     cut(s)

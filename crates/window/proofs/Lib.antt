@@ -1,3 +1,4 @@
 pub mod SinkLaws
 pub mod DigitLaws
+pub mod SymbolLaws
 pub mod TreeTurns

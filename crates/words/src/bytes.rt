@@ -1,5 +1,7 @@
 // Bytes by kind (language/specs/Bytes.antt), and refusals 1 and 2.
 use crate::got::Got;
+use bounds::text::job_bytes;
+use bounds::text::program_bytes;
 ghost use mathlib.Core.Path.{_≡_};
 ghost use mathlib.Core.Bool.{not};
 ghost use Rattle.language.specs.Bytes.{byteKind, isBlank, isDigit, inName, inWord, isOutside};
@@ -112,7 +114,7 @@ fn outside(text: &[u8]) -> usize
 }
 
 // "Each: 1; 2": "1 program over 32,768 or job over 8,192 bytes (offset: the limit)". The text's length, or the refusal.
-pub fn sound_bytes(limit: usize, text: &[u8]) -> Got
+fn sound_bytes(limit: usize, text: &[u8]) -> Got
     ensures { λ r. ⌜ r ≡ bytesAt limit (now (text .entry)) ⌝ }
 {
     if text.len() <= limit {
@@ -129,4 +131,18 @@ pub fn sound_bytes(limit: usize, text: &[u8]) -> Got
         number: 1,
         offset: limit,
     }
+}
+
+// "1 program over 32,768 .. bytes (offset: the limit)"; 2.
+pub fn sound_program(text: &[u8]) -> Got
+    ensures { λ r. ⌜ r ≡ bytesAt 32768 (now (text .entry)) ⌝ }
+{
+    sound_bytes(program_bytes(), text)
+}
+
+// "1 .. job over 8,192 bytes (offset: the limit)"; 2.
+pub fn sound_job(text: &[u8]) -> Got
+    ensures { λ r. ⌜ r ≡ bytesAt 8192 (now (text .entry)) ⌝ }
+{
+    sound_bytes(job_bytes(), text)
 }

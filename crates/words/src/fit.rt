@@ -1,6 +1,10 @@
 // A word judged: how it fits as a name or a numeral, and its value (language/specs/Words.antt). A fit is its number (specs/twins/Marks.antt).
 use crate::cutting::digits_end;
 use crate::cutting::name_end;
+use bounds::word::is_name_length;
+use bounds::word::is_number;
+use bounds::word::is_number_length;
+use bounds::word::is_numeral_length;
 ghost use mathlib.Core.Path.{_≡_};
 ghost use Prim.Native.Nat.{_-_, _%_};
 ghost use lib.ListN.{drop};
@@ -46,7 +50,7 @@ pub(crate) fn name_fit(word: &[u8], from: usize) -> u16
     if name_end(word, from) < word.len() {
         return 1;
     }
-    if word.len() - from <= 16 {
+    if is_name_length(word.len() - from) {
         return 0;
     }
     2
@@ -76,7 +80,7 @@ pub(crate) fn numeral_fit(word: &[u8], from: usize) -> u16
     ensures { λ r. ⌜ r ≡ fitNumber (numeralFit (drop from (now (word .entry)))) ⌝ }
 {
     if is_numeral(word, from) {
-        if left(word, from) <= 7 {
+        if is_numeral_length(left(word, from)) {
             return 0;
         }
         return 2;
@@ -119,12 +123,8 @@ pub(crate) fn number_fit(word: &[u8], from: usize) -> u16
     ensures { λ r. ⌜ r ≡ fitNumber (numberFit (drop from (now (word .entry)))) ⌝ }
 {
     if is_numeral(word, from) {
-        if left(word, from) <= 3 {
-            let v = value(word, from);
-            if v < 1 {
-                return 2;
-            }
-            if v <= 999 {
+        if is_number_length(left(word, from)) {
+            if is_number(value(word, from)) {
                 return 0;
             }
             return 2;

@@ -1,1 +1,2 @@
 pub mod TextTurns
+pub mod FilledLaws

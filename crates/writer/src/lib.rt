@@ -4,3 +4,4 @@ pub mod binding;
 pub mod line;
 pub mod outcome;
 pub mod refusal;
+pub mod sample;

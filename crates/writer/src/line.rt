@@ -1,6 +1,8 @@
 // "Each line: its number, its steps", its bindings and its non-equalities. In storage a line has its steps, how many cells its inputs and
 // its output have, how many non-equalities there are, then the cells of the inputs, of the output, and two for each non-equality.
 use crate::binding::put_bindings;
+use crate::sample::class_end;
+use crate::sample::put_sample_if;
 use cells::cell;
 use window::digit::put_digits;
 use window::leaf::put_leaf;
@@ -16,7 +18,8 @@ ghost use mathlib.Core.List.{_++_, _∷_};
 ghost use Rattle.listing.specs.Print.{digits};
 ghost use Rattle.window.specs.twins.Sink.{sink, puts};
 ghost use Rattle.window.specs.twins.TreeText.{symbolText};
-ghost use Rattle.writer.specs.twins.LineText.{nonEqualityText, restrictionText, classEnd, lineEnd, lineText, linesText};
+ghost use Rattle.writer.specs.twins.LineCells.{lineEnd};
+ghost use Rattle.writer.specs.twins.LineText.{nonEqualityText, restrictionText, lineText, linesText};
 
 // ` # L R`
 fn put_non_equality(
@@ -56,15 +59,8 @@ fn put_restriction(
     p
 }
 
-// The place behind the inputs and the output of the line.
-fn class_end(line: &[u16]) -> usize
-    ensures { λ r. ⌜ r ≡ classEnd (now (line .entry)) ⌝ }
-{
-    4 + cell::cell(line, 1) as usize + cell::cell(line, 2) as usize
-}
-
 // The place behind the line.
-fn line_end(line: &[u16]) -> usize
+pub fn line_end(line: &[u16]) -> usize
     ensures { λ r. ⌜ r ≡ lineEnd (now (line .entry)) ⌝ }
 {
     4
@@ -103,7 +99,7 @@ fn put_line(
     put_byte(out, q, b'\n')
 }
 
-// As many lines, one behind the other, as far as there are cells and as the window takes them. So it ends soon whatever number is handed in.
+// As many lines, one behind the other, as far as there are cells and as the window takes them; with `samples`, under each its sample. So it ends soon whatever number is handed in.
 pub fn put_lines(
     out: &mut [u8],
     place: Place,
@@ -113,8 +109,9 @@ pub fn put_lines(
     io: &[u16],
     lines: usize,
     answer: &[u16],
+    samples: bool,
 ) -> Place
-    ensures { λ r. ⌜ sink r (now (out .exit)) ≡ puts (sink place (now (out .entry))) (linesText (symbolText (now (program .entry)) (now (job .entry)) (now (symbols .entry))) (now (io .entry)) lines 0 (now (answer .entry))) ⌝ }
+    ensures { λ r. ⌜ sink r (now (out .exit)) ≡ puts (sink place (now (out .entry))) (linesText (symbolText (now (program .entry)) (now (job .entry)) (now (symbols .entry))) (now (io .entry)) samples lines 0 (now (answer .entry))) ⌝ }
 {
     let mut p = place;
     let mut i: usize = 0;
@@ -128,7 +125,8 @@ pub fn put_lines(
         }
         let line = rest(answer, at);
         i += 1;
-        p = put_line(out, p, program, job, symbols, io, i, line);
+        let l = put_line(out, p, program, job, symbols, io, i, line);
+        p = put_sample_if(out, l, program, job, symbols, line, samples);
         at = ahead(at, line_end(line), answer.len());
     }
     p

@@ -1,6 +1,6 @@
-//! Listings: what `list` says, prints and leaves, alone and with its first page, and what its lines mean.
+//! Listings: what `list` says, prints and leaves, alone and with its first page, with samples and without, and what its lines mean.
 use crate::entry::Entry;
-use raugvite::{list_in, list_lengths, list_print_in, print_list, Expression, Listed, Stop};
+use raugvite::{list_in, list_lengths, list_print_in, list_print_sampled_in, print_list, print_sampled, Expression, Listed, Stop};
 use reference::expression::{Expression as Tree, Kind};
 use reference::ground::{check_listing, Universe};
 use reference::job_check::Tool;
@@ -73,9 +73,10 @@ const fn beginning(text: &[u8]) -> [u8; PAGE] {
     page
 }
 
-pub struct ListPrint;
+/// With samples where it is so said.
+pub struct ListPrint<const SAMPLES: bool>;
 
-impl Entry for ListPrint {
+impl<const SAMPLES: bool> Entry for ListPrint<SAMPLES> {
     type Said = First;
     const SHORT: First = First { said: Listed::Short, bytes: 15, page: beginning(b"refused - 20 0\n") };
 
@@ -85,7 +86,8 @@ impl Entry for ListPrint {
 
     fn call(program: &[u8], job: &[u8], work: &mut [u16], answer: &mut [u16]) -> First {
         let mut page = [b'?'; PAGE];
-        let (said, bytes) = list_print_in(program, job, work, answer, &mut page);
+        let list = if SAMPLES { list_print_sampled_in } else { list_print_in };
+        let (said, bytes) = list(program, job, work, answer, &mut page);
         First { said, bytes, page }
     }
 
@@ -94,11 +96,15 @@ impl Entry for ListPrint {
         if first.page[first.bytes..].iter().any(|&b| b != 0) {
             return first.page.to_vec();
         }
-        let all = print_list(program, job, first.said, answer);
+        let print = if SAMPLES { print_sampled } else { print_list };
+        let all = print(program, job, first.said, answer);
         [&first.page[..first.bytes], &all[first.bytes..]].concat()
     }
 
     fn due(program: &[u8], job: &[u8]) -> Vec<u8> {
+        if SAMPLES {
+            return reference::print_samples(program, job);
+        }
         List::due(program, job)
     }
 
@@ -107,7 +113,8 @@ impl Entry for ListPrint {
     }
 }
 
-fn tree(e: &Expression) -> Tree {
+/// An expression as the other implementation has it.
+pub fn tree(e: &Expression) -> Tree {
     match e {
         Expression::Symbol(word) => Tree::atom(word),
         Expression::AnyValue(number) => Tree::variable(Kind::E, u32::from(*number)),

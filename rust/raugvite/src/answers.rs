@@ -114,6 +114,22 @@ impl Display for Listed {
     }
 }
 
+/// What [`sample_in`](crate::sample_in) came to.
+#[derive(Clone, Copy, Debug, PartialEq, Eq, Hash)]
+pub enum Sampled {
+    /// The sample stands in storage.
+    Done {
+        /// The cells of its inputs, which come first.
+        inputs: usize,
+        /// The cells of its output.
+        output: usize,
+    },
+    /// The listing has no line of this number, and nothing was touched.
+    Absent,
+    /// 20: the storage that was lent is too short, and nothing was touched.
+    Short,
+}
+
 /// What a run came to.
 ///
 /// It is displayed as the printed line, without the value: that is in a [`Run`](crate::Run) or in storage.
@@ -204,6 +220,16 @@ pub fn listed_numbers(said: Listed) -> (usize, [usize; 5]) {
         Listed::Stopped { stop, lines, transitions } => (stop.number(), [0, 0, 0, lines, transitions]),
         Listed::Refused(Refusal { text, number, offset }) => (number, [letter(text), offset, 0, 0, 0]),
         Listed::Short => (SHORT, [0; 5]),
+    }
+}
+
+/// The answer of a number, and the cells of inputs and output; an output has a cell at least.
+pub fn sampled(number: usize, [inputs, output]: [usize; 2]) -> Sampled {
+    match (number, output) {
+        (SHORT, _) => Sampled::Short,
+        (0, 0) => Sampled::Absent,
+        (0, _) => Sampled::Done { inputs, output },
+        _ => unknown(number),
     }
 }
 

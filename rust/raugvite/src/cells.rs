@@ -27,6 +27,14 @@ pub fn trees(cells: &[u16], words: &[String]) -> Vec<Expression> {
     found
 }
 
+/// Where the given number of lines ends.
+pub fn lines_end(answer: &[u16], count: usize) -> usize {
+    (0..count).fold(0, |at, _| {
+        let [i, o, q] = [1, 2, 3].map(|k| usize::from(answer[at + k]));
+        at + 4 + i + o + 2 * q
+    })
+}
+
 /// The given number of lines, one behind the other.
 pub fn lines(answer: &[u16], count: usize, words: &[String]) -> Vec<Line> {
     let mut at = 0;
@@ -69,6 +77,7 @@ mod tests {
     fn cells_of_lines() {
         let cells = [3, 1, 1, 1, 7, 5, 7, 1, 4, 4, 3, 0, 1, 4, 6, 5, 4, 5, 5, 0, 0];
         let found = lines(&cells, 2, &words());
+        assert_eq!([0, 1, 2].map(|count| lines_end(&cells, count)), [0, 8, 19]);
         assert_eq!(found[0].to_string(), "(in ?a1) (out 'B) (neq [?a1 'A])");
         assert_eq!(found[1].to_string(), "(in 'A (cons ?e1 'B)) (out (cons 'B 'B)) (neq)");
         assert_eq!(found.iter().map(|line| line.steps).collect::<Vec<_>>(), [3, 4]);

@@ -1,6 +1,7 @@
 //! A listing as JSON; [`Listing::to_json`](crate::Listing::to_json) has the format.
 use crate::answers::Listed;
-use crate::lines::PrintedLine;
+use crate::expressions::Expression;
+use crate::lines::{PrintedLine, Sample};
 use std::fmt::Display;
 
 // A string with its quotes. What a listing has in it needs no escape; a string of other origin may.
@@ -32,7 +33,14 @@ fn list<T>(out: &mut String, items: impl IntoIterator<Item = T>, mut write: impl
     out.push(']');
 }
 
-fn line(out: &mut String, printed: PrintedLine<'_>) {
+fn pair(out: &mut String, inputs: &[Expression], output: &Expression) {
+    out.push_str("\"inputs\":");
+    list(out, inputs, string);
+    out.push_str(",\"output\":");
+    string(out, output);
+}
+
+fn line(out: &mut String, printed: PrintedLine<'_>, sample: Option<&Sample>) {
     out.push_str(&format!("{{\"number\":{},\"steps\":{},\"bindings\":", printed.number, printed.line.steps));
     list(out, &printed.bindings, |out, binding| {
         out.push_str("{\"variable\":");
@@ -41,29 +49,40 @@ fn line(out: &mut String, printed: PrintedLine<'_>) {
         string(out, &binding.value);
         out.push('}');
     });
-    out.push_str(",\"inputs\":");
-    list(out, &printed.line.inputs, string);
-    out.push_str(",\"output\":");
-    string(out, &printed.line.output);
+    out.push(',');
+    pair(out, &printed.line.inputs, &printed.line.output);
     out.push_str(",\"unequal\":");
     list(out, &printed.line.unequal, |out, (left, right)| list(out, [left, right], string));
+    if let Some(sample) = sample {
+        out.push_str(",\"sample\":{");
+        pair(out, &sample.inputs, &sample.output);
+        out.push('}');
+    }
     out.push('}');
 }
 
 // The lines have another key where they are not all: who asks for "lines" alone finds none there.
-fn walked<'a>(word: &str, sentence: Option<&str>, answer: Listed, key: &str, lines: impl Iterator<Item = PrintedLine<'a>>) -> String {
+fn walked<'a>(
+    word: &str,
+    sentence: Option<&str>,
+    answer: Listed,
+    key: &str,
+    lines: impl Iterator<Item = (PrintedLine<'a>, Option<&'a Sample>)>,
+) -> String {
     let mut out = format!("{{\"word\":\"{word}\"");
     if let Some(sentence) = sentence {
         out.push_str(",\"sentence\":");
         string(&mut out, sentence);
     }
     out.push_str(&format!(",\"transitions\":{},\"{key}\":", answer.transitions()));
-    list(&mut out, lines, line);
+    list(&mut out, lines, |out, (printed, sample)| line(out, printed, sample));
     out.push('}');
     out
 }
 
-pub fn listing<'a>(answer: Listed, lines: impl Iterator<Item = PrintedLine<'a>>) -> String {
+/// The listing with these lines, and their samples where they are called for.
+pub fn listing<'a>(answer: Listed, lines: impl Iterator<Item = PrintedLine<'a>>, samples: Option<&'a [Sample]>) -> String {
+    let lines = lines.enumerate().map(|(i, line)| (line, samples.map(|all| &all[i])));
     match answer {
         Listed::Whole { .. } => walked("whole", None, answer, "lines", lines),
         Listed::Cut { .. } => walked("cut", None, answer, "lines_within_steps", lines),

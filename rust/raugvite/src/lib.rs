@@ -38,8 +38,8 @@
 //!
 //! # Storage
 //!
-//! [`list`] and [`run`] have storage for each thread, which is kept from call to call. [`list_in`], [`list_print_in`] and [`run_in`] work in storage
-//! that the caller lends; docs/STORAGE.md says what stands in it afterwards, and [`print_list`] and [`print_run`] print it.
+//! [`list`] and [`run`] have storage for each thread, which is kept from call to call. [`list_in`], [`list_print_in`], [`sample_in`] and [`run_in`] work
+//! in storage that the caller lends; docs/STORAGE.md says what stands in it afterwards, and [`print_list`], [`print_sampled`] and [`print_run`] print it.
 //!
 //! All of them end for any bytes and any storage. What is proved of them is in docs/CONTRACTS.md, and what the boundary adds in docs/TRUST.md. A
 //! call takes up to 330 KB of stack; a thread that Rust starts has 2 MB.
@@ -48,6 +48,7 @@
 mod answers;
 mod cells;
 mod expressions;
+mod found;
 mod json;
 mod lines;
 mod listing;
@@ -56,11 +57,12 @@ mod symbols;
 mod sys;
 
 use answers::{listed, listed_numbers, ran, ran_numbers, SHORT};
+use found::Found;
 use std::cell::RefCell;
 
-pub use answers::{Listed, Ran, Stop};
+pub use answers::{Listed, Ran, Sampled, Stop};
 pub use expressions::{Expression, NotAnExpression};
-pub use lines::{Binding, Line, PrintedLine};
+pub use lines::{Binding, Line, PrintedLine, Sample};
 pub use listing::{Listing, NotWhole, Run, Whole};
 pub use refusals::{sentence, Position, Refusal, Text};
 
@@ -100,10 +102,53 @@ pub fn list_in(program: &[u8], job: &[u8], work: &mut [u16], answer: &mut [u16])
 /// [`list_in`], and in `out` the printed text from its first byte on: how many bytes of it there are. Zeros stand behind them. Where `out` is full
 /// the text may be longer, and [`print_list`] prints all of it. The texts are read once.
 pub fn list_print_in(program: &[u8], job: &[u8], work: &mut [u16], answer: &mut [u16], out: &mut [u8]) -> (Listed, usize) {
-    let (number, [letter, offset, cut, lines, transitions, bytes]) = sys::list_print(program, job, work, answer, out);
-    // 20 says nothing beside its number; its text stands in `out` as any other, with zeros behind it and none in it.
+    let told = sys::list_print(program, job, work, answer, out);
+    printed_first(told, out)
+}
+
+/// [`list_print_in`] with a sample under each line. Where `out` is full, [`print_sampled`] prints all of the text.
+pub fn list_print_sampled_in(program: &[u8], job: &[u8], work: &mut [u16], answer: &mut [u16], out: &mut [u8]) -> (Listed, usize) {
+    let told = sys::list_print_sampled(program, job, work, answer, out);
+    printed_first(told, out)
+}
+
+// What was told, and how many bytes of `out` are text: 20 says nothing beside its number; its text stands in `out` as any other, with zeros behind it and
+// none in it.
+fn printed_first((number, said): (usize, [usize; 6]), out: &[u8]) -> (Listed, usize) {
+    let [letter, offset, cut, lines, transitions, bytes] = said;
     let bytes = if number == SHORT { out.iter().take_while(|&&b| b != 0).count() } else { bytes };
     (listed(number, [letter, offset, cut, lines, transitions]), bytes)
+}
+
+/// The least length of `sample` for [`sample_in`], in cells.
+pub fn sample_length() -> usize {
+    sys::sample_cells()
+}
+
+/// The sample of a line, by its number from 1 on, in lent storage; `answer` is the storage that [`list_in`] left.
+///
+/// `sample` may hold anything and may be longer than [`sample_length`] says. Where it is shorter the answer is [`Sampled::Short`]; that, and a line that
+/// the listing has not, touches nothing. Else the cells of the sample's inputs stand in `sample`, behind them those of its output, then zeros. A
+/// symbol's number from 1,024 on is a new atom: 1,024 + k has the name Q and the number that comes as k-th, from 0, of those that make no
+/// symbol of program and job.
+///
+/// ```
+/// use raugvite::{list_in, list_lengths, sample_in, sample_length, Sampled};
+///
+/// let program = b"(define dub [e.x] (cons e.x 'K))";
+/// let job = b"(job (in ?e1) (out ?e2) (neq) (steps 1) (walk 1) (table 1))";
+/// let (work, answer) = list_lengths();
+/// let (mut work, mut answer) = (vec![0; work], vec![0; answer]);
+/// let _ = list_in(program, job, &mut work, &mut answer);
+/// let mut sample = vec![0; sample_length()];
+/// assert_eq!(sample_in(&answer, 1, &mut sample), Sampled::Done { inputs: 1, output: 3 });
+/// assert_eq!(sample[..4], [4097, 4, 4097, 1]);
+/// assert_eq!(sample_in(&answer, 2, &mut sample), Sampled::Absent);
+/// assert_eq!(sample_in(&answer, 1, &mut sample[1..]), Sampled::Short);
+/// ```
+pub fn sample_in(answer: &[u16], line: usize, sample: &mut [u16]) -> Sampled {
+    let (number, said) = sys::sample(answer, line, sample);
+    answers::sampled(number, said)
 }
 
 /// The program run forwards on the job's inputs, in lent storage.
@@ -127,7 +172,13 @@ fn print_list_on(program: &[u8], job: &[u8], said: Listed, answer: &[u16], text:
     pages(text, |from, page| sys::print_list(program, job, numbers, answer, from, page))
 }
 
-/// The same of a run; `answer` is the storage that [`run_in`] left.
+/// The same with a sample under each line.
+pub fn print_sampled(program: &[u8], job: &[u8], said: Listed, answer: &[u16]) -> Vec<u8> {
+    let numbers = listed_numbers(said);
+    pages(Vec::new(), |from, page| sys::print_sampled(program, job, numbers, answer, from, page))
+}
+
+/// The printed text of a run; `answer` is the storage that [`run_in`] left.
 pub fn print_run(program: &[u8], job: &[u8], said: Ran, answer: &[u16]) -> Vec<u8> {
     print_run_on(program, job, said, answer, Vec::new())
 }
@@ -186,10 +237,7 @@ pub fn list(program: &[u8], job: &[u8]) -> Listing {
         let text = page[..bytes].to_vec();
         Listing {
             answer: said,
-            lines: match said.lines_found() {
-                0 => Vec::new(),
-                count => cells::lines(answer, count, &symbols::words(program, job)),
-            },
+            found: Found::new(program, job, answer, said.lines_found()),
             text: if bytes < FIRST { text } else { print_list_on(program, job, said, answer, text) },
         }
     })

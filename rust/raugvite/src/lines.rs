@@ -32,16 +32,22 @@ fn write(f: &mut Formatter<'_>, expression: &Expression) -> fmt::Result {
     Display::fmt(expression, f)
 }
 
+// Inputs and output as a job writes them.
+fn write_pair(f: &mut Formatter<'_>, inputs: &[Expression], output: &Expression) -> fmt::Result {
+    f.write_str("(in")?;
+    for input in inputs {
+        f.write_str(" ")?;
+        write(f, input)?;
+    }
+    f.write_str(") (out ")?;
+    write(f, output)?;
+    f.write_str(")")
+}
+
 impl Display for Line {
     fn fmt(&self, f: &mut Formatter<'_>) -> fmt::Result {
-        f.write_str("(in")?;
-        for input in &self.inputs {
-            f.write_str(" ")?;
-            write(f, input)?;
-        }
-        f.write_str(") (out ")?;
-        write(f, &self.output)?;
-        f.write_str(") (neq")?;
+        write_pair(f, &self.inputs, &self.output)?;
+        f.write_str(" (neq")?;
         for (left, right) in &self.unequal {
             f.write_str(" [")?;
             write(f, left)?;
@@ -50,6 +56,33 @@ impl Display for Line {
             f.write_str("]")?;
         }
         f.write_str(")")
+    }
+}
+
+/// The sample of a line: one known input that lies in it, with its output. Each variable that the line has left is an atom of its own in it, which is
+/// none of the symbols of program and job: Q and a number.
+///
+/// It is displayed as it is printed under its line, and with `{:#}` with the expressions in infix notation.
+///
+/// ```
+/// let program = b"(define pair [e.x] (if (cons? e.x e.h e.t a.p) 'Yes 'No))";
+/// let job = b"(job (in ?e1) (out 'Yes) (neq) (steps 9) (walk 9) (table 9))";
+/// let whole = raugvite::list_whole(program, job)?;
+/// assert_eq!(whole.samples()[0].to_string(), "(in (cons 'Q1 'Q2)) (out 'Yes)");
+/// assert_eq!(whole.listing().sampled_text(), b"whole 1 3\n1 2 ?e1=(cons ?e2 ?e3)\n(in (cons 'Q1 'Q2)) (out 'Yes)\n");
+/// # Ok::<(), raugvite::NotWhole>(())
+/// ```
+#[derive(Clone, Debug, PartialEq, Eq)]
+pub struct Sample {
+    /// The inputs, as many as main has parameters, without variables.
+    pub inputs: Vec<Expression>,
+    /// The output that the program gives on them, in the line's steps.
+    pub output: Expression,
+}
+
+impl Display for Sample {
+    fn fmt(&self, f: &mut Formatter<'_>) -> fmt::Result {
+        write_pair(f, &self.inputs, &self.output)
     }
 }
 

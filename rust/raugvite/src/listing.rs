@@ -1,10 +1,11 @@
 //! Listings and runs with what they found.
 use crate::answers::{Listed, Ran, Stop};
 use crate::expressions::Expression;
+use crate::found::Found;
 use crate::json;
-use crate::lines::{printed, Line, PrintedLine};
+use crate::lines::{printed, Line, PrintedLine, Sample};
 use crate::refusals::Refusal;
-use std::fmt::{self, Display, Formatter};
+use std::fmt::{self, Debug, Display, Formatter};
 
 // What is printed has letters, digits and marks of ASCII alone. The last line feed is left to the one who writes it out.
 fn shown(text: &[u8]) -> &str {
@@ -18,13 +19,33 @@ fn shown(text: &[u8]) -> &str {
 /// [`lines_found`](Listing::lines_found) promises nothing. A function that may only work on all lines takes a [`Whole`], which nothing but a whole
 /// listing becomes. A listing cannot be changed or made by others than this package.
 ///
-/// It is displayed as it is printed, without the last line feed.
-#[derive(Clone, Debug, PartialEq, Eq)]
+/// Its lines and their samples are made of what the walk left when they are asked for the first time; a listing that is printed alone has none made.
+///
+/// It is displayed as it is printed, without the last line feed. Two are equal that came to the same, with the same lines and the same text.
+#[derive(Clone)]
 #[must_use = "a listing may be cut or stopped, and a text may be refused"]
 pub struct Listing {
     pub(crate) answer: Listed,
-    pub(crate) lines: Vec<Line>,
+    pub(crate) found: Found,
     pub(crate) text: Vec<u8>,
+}
+
+impl PartialEq for Listing {
+    fn eq(&self, other: &Listing) -> bool {
+        self.answer == other.answer && self.text == other.text && self.lines_found() == other.lines_found()
+    }
+}
+
+impl Eq for Listing {}
+
+impl Debug for Listing {
+    fn fmt(&self, f: &mut Formatter<'_>) -> fmt::Result {
+        f.debug_struct("Listing")
+            .field("answer", &self.answer)
+            .field("lines", &self.lines_found())
+            .field("text", &shown(&self.text))
+            .finish()
+    }
 }
 
 impl Listing {
@@ -40,24 +61,29 @@ impl Listing {
 
     /// The lines of a whole listing: every file of the job's class that gets the wanted answer lies in one of them.
     pub fn whole_lines(&self) -> Option<&[Line]> {
-        self.is_whole().then_some(&self.lines[..])
+        self.is_whole().then(|| self.lines_found())
     }
 
     /// The lines of a whole listing or a cut one: every file of the job's class that gets the wanted answer within the job's steps lies in one of
     /// them. Of a cut one, files that run longer may get it too.
     pub fn lines_within_steps(&self) -> Option<&[Line]> {
-        matches!(self.answer, Listed::Whole { .. } | Listed::Cut { .. }).then_some(&self.lines[..])
+        matches!(self.answer, Listed::Whole { .. } | Listed::Cut { .. }).then(|| self.lines_found())
     }
 
     /// The lines that were found: of a stopped listing a beginning, of a refused text none.
     pub fn lines_found(&self) -> &[Line] {
-        &self.lines
+        self.found.lines()
+    }
+
+    /// The samples of the lines that were found, in their order; a stopped listing has them too.
+    pub fn samples_found(&self) -> &[Sample] {
+        self.found.samples()
     }
 
     /// The lines that were found, with their numbers and what became of the job's variables. These are read from the printed text, and only where
     /// they are asked for.
     pub fn printed_lines_found(&self) -> impl Iterator<Item = PrintedLine<'_>> {
-        printed(shown(&self.text), &self.lines)
+        printed(shown(&self.text), self.lines_found())
     }
 
     /// The printed listing: ASCII, each line with its line feed.
@@ -68,6 +94,15 @@ impl Listing {
     /// The printed listing alone.
     pub fn into_text(self) -> Vec<u8> {
         self.text
+    }
+
+    /// The printed listing with the sample of each line under it.
+    pub fn sampled_text(&self) -> Vec<u8> {
+        if self.found.is_empty() {
+            return self.text.clone();
+        }
+        let (program, job) = self.found.texts();
+        crate::print_sampled(program, job, self.answer, &self.found.storage())
     }
 
     /// A refusal as an error. The listing that is left is whole, cut or stopped.
@@ -129,7 +164,18 @@ impl Listing {
     /// );
     /// ```
     pub fn to_json(&self) -> String {
-        json::listing(self.answer, self.printed_lines_found())
+        json::listing(self.answer, self.printed_lines_found(), None)
+    }
+
+    /// The same with the key `sample` behind the others of each line: an object of `inputs` and `output`, as strings without variables.
+    ///
+    /// ```
+    /// let program = b"(define pair [e.x] (if (cons? e.x e.h e.t a.p) 'Yes 'No))";
+    /// let listing = raugvite::list(program, b"(job (in ?e1) (out 'No) (neq) (steps 9) (walk 9) (table 9))");
+    /// assert!(listing.to_json_with_samples().ends_with(r#""unequal":[],"sample":{"inputs":["'Q1"],"output":"'No"}}]}"#));
+    /// ```
+    pub fn to_json_with_samples(&self) -> String {
+        json::listing(self.answer, self.printed_lines_found(), Some(self.samples_found()))
     }
 }
 
@@ -173,12 +219,17 @@ pub struct Whole(Listing);
 impl Whole {
     /// All lines.
     pub fn lines(&self) -> &[Line] {
-        &self.0.lines
+        self.0.lines_found()
+    }
+
+    /// The sample of each line.
+    pub fn samples(&self) -> &[Sample] {
+        self.0.samples_found()
     }
 
     /// All lines, owned.
     pub fn into_lines(self) -> Vec<Line> {
-        self.0.lines
+        self.0.found.into_lines()
     }
 
     /// All lines, with their numbers and what became of the job's variables.

@@ -44,6 +44,35 @@ macro_rules! entry {
     };
 }
 
+/// The least length of the storage for a sample, in cells.
+pub fn sample_cells() -> usize {
+    extern "C" {
+        fn raugvite_sample_cells() -> usize;
+    }
+    // SAFETY: it takes nothing and reads nothing.
+    unsafe { raugvite_sample_cells() }
+}
+
+/// The sample of a line: the number of the answer, the cells of the sample's inputs and those of its output.
+pub fn sample(answer: &[u16], line: usize, sample: &mut [u16]) -> (usize, [usize; 2]) {
+    extern "C" {
+        fn raugvite_sample(
+            answer: *const u16,
+            answer_length: usize,
+            line: usize,
+            sample: *mut u16,
+            sample_length: usize,
+            said: *mut usize,
+            said_length: usize,
+        ) -> usize;
+    }
+    let mut said = [0usize; 2];
+    let (a, c, s) = (answer.as_ptr(), sample.as_mut_ptr(), said.as_mut_ptr());
+    // SAFETY: each pointer comes with the length of its slice, which it is aligned for; those that are written overlap no other.
+    let number = unsafe { raugvite_sample(a, answer.len(), line, c, sample.len(), s, said.len()) };
+    (number, said)
+}
+
 /// The text of an answer, given by its number and `said`, from the byte `from` on, as far as `out` has room: how many bytes they are.
 macro_rules! text {
     ($name:ident, $function:ident, $said:literal) => {
@@ -76,6 +105,8 @@ lengths!(list_lengths, raugvite_list_work, raugvite_list_answer);
 lengths!(run_lengths, raugvite_run_work, raugvite_run_answer);
 entry!(list, raugvite_list, 5);
 entry!(list_print, raugvite_list_print, 6, page);
+entry!(list_print_sampled, raugvite_list_print_sampled, 6, page);
 entry!(run, raugvite_run, 4);
 text!(print_list, raugvite_print_list, 5);
+text!(print_sampled, raugvite_print_sampled, 5);
 text!(print_run, raugvite_print_run, 4);

@@ -1,7 +1,8 @@
 //! A plain implementation of the resolver that 01 describes, written from
 //! 01, its list of readings and document 001 alone, so that its answers are
 //! evidence for those of others; the check of 13 (02, request 1) was added
-//! later, with the definitions of the proved one in view. It keeps trees on
+//! later, with the definitions of the proved one in view; samples (02, request
+//! 2) are from its sentences and their readings alone. It keeps trees on
 //! the heap and uses the standard library freely; it knows nothing of lent
 //! storage (20).
 
@@ -21,6 +22,7 @@ pub mod program_check;
 pub mod program_reader;
 pub mod restriction;
 pub mod runner;
+pub mod sample;
 pub mod substitution;
 pub mod syntax;
 pub mod token;
@@ -28,7 +30,8 @@ pub mod unify;
 pub mod walk;
 
 pub use listing::{Line, Listing, Run, Word};
-pub use print::{print_listing, print_run};
+pub use print::{print_listing, print_run, print_sampled};
+pub use sample::{sample, Sample};
 
 use fault::Fault;
 use job_check::{Job, Tool};
@@ -57,6 +60,14 @@ pub fn list_texts(program: &[u8], job: &[u8]) -> Listing {
     match read_texts(program, job, Tool::List) {
         Ok((program, job)) => walk::walk(&program, &job),
         Err(Refusal { letter, fault: Fault { offset, number } }) => Listing::Refused { letter, number, offset },
+    }
+}
+
+/// The printed listing of a job with a sample under each line.
+pub fn print_samples(program: &[u8], job: &[u8]) -> Vec<u8> {
+    match list_texts(program, job) {
+        refused @ Listing::Refused { .. } => print_listing(&refused),
+        listing => print_sampled(&listing, &sample::symbols(program, job)),
     }
 }
 

@@ -1,9 +1,21 @@
 //! Printing (01, "Printing, and cases"): every line ends in a line feed.
 
+use crate::cursor::Symbols;
 use crate::expression::{Expression, Kind, Variable};
 use crate::listing::{Line, Listing, Run, Word};
+use crate::sample::{sample, Sample};
 
 pub fn print_listing(listing: &Listing) -> Vec<u8> {
+    print_with(listing, |_, _| {})
+}
+
+/// "Where called for, each prints under its line" (02, request 2).
+pub fn print_sampled(listing: &Listing, symbols: &Symbols) -> Vec<u8> {
+    print_with(listing, |out, line| print_sample(out, &sample(line, symbols)))
+}
+
+/// A listing with what is put under each line.
+fn print_with(listing: &Listing, under: impl Fn(&mut Vec<u8>, &Line)) -> Vec<u8> {
     let mut out = Vec::new();
     match listing {
         Listing::Refused { letter, number, offset } => refusal(&mut out, *letter, *number, *offset),
@@ -12,6 +24,7 @@ pub fn print_listing(listing: &Listing) -> Vec<u8> {
             out.extend_from_slice(first.as_bytes());
             for (index, line) in lines.iter().enumerate() {
                 print_line(&mut out, index + 1, line);
+                under(&mut out, line);
             }
         }
     }
@@ -62,6 +75,18 @@ fn print_line(out: &mut Vec<u8>, number: usize, line: &Line) {
         print_expression(out, &neq.right);
     }
     out.push(b'\n');
+}
+
+/// "as `(in D ..) (out D)`, one blank between parts".
+pub fn print_sample(out: &mut Vec<u8>, sample: &Sample) {
+    out.extend_from_slice(b"(in");
+    for input in &sample.inputs {
+        out.push(b' ');
+        print_expression(out, input);
+    }
+    out.extend_from_slice(b") (out ");
+    print_expression(out, &sample.output);
+    out.extend_from_slice(b")\n");
 }
 
 fn print_variable(out: &mut Vec<u8>, variable: Variable) {

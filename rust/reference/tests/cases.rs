@@ -1,6 +1,6 @@
 //! The cases that 01 names: P1 to P11, figure 14 and figure 11.
 
-use reference::{list_texts, print_listing, print_run, run_texts};
+use reference::{list_texts, print_listing, print_run, print_samples, run_texts};
 
 const SAME: &str = "(define same [e.x e.y] (if (cons? e.x e.h e.t a.p) 'No \
     (if (cons? e.y e.h e.t a.q) 'No (if (eqa? a.p a.q) 'Yes 'No))))";
@@ -117,6 +117,29 @@ fn figure_11_on_the_text_a() {
     let mut found: Vec<u32> = listing.lines().skip(1).map(steps).collect();
     found.sort();
     assert_eq!(found, [10, 13]);
+}
+
+fn sampled(program: &str, input: &str, output: &str, neq: &str, walk: u32) -> String {
+    let text = job(input, output, neq, [9, walk, 9]);
+    String::from_utf8(print_samples(program.as_bytes(), text.as_bytes())).unwrap().trim_end().replace('\n', " | ")
+}
+
+/// The texts of the readings of request 2 of 02.
+#[test]
+fn samples() {
+    let both = "(define f [e.x] (if (cons? e.x e.h e.t a.p) 'A 'A))";
+    let two = "whole 2 3 | 1 2 ?e1=(cons ?e2 ?e3) | (in (cons 'Q1 'Q2)) (out 'A) | 2 2 ?e1=?a4 | (in 'Q1) (out 'A)";
+    assert_eq!(sampled(both, "?e1", "'A", "", 9), two);
+    let stopped = "stop23 1 2 | 1 2 ?e1=(cons ?e2 ?e3) | (in (cons 'Q1 'Q2)) (out 'A)";
+    assert_eq!(sampled(both, "?e1", "'A", "", 2), stopped);
+    assert_eq!(sampled("(define f [e.x] e.x)", "?e1", "?e2", "", 9), "whole 1 1 | 1 1 ?e2=?e1 | (in 'Q1) (out 'Q1)");
+    assert_eq!(sampled("(define f [e.x e.y] 'Q1)", "?e1 ?e2", "'Q1", "", 9), "whole 1 1 | 1 1 | (in 'Q2 'Q3) (out 'Q1)");
+    let elsewhere = "(define f [e.x] 'A)(define g [] 'Q1)";
+    assert_eq!(sampled(elsewhere, "?e1", "'A", "['Q2 'B]", 9), "whole 1 1 | 1 1 | (in 'Q3) (out 'A)");
+    assert_eq!(sampled("(define f [e.x] 'Q01)", "?e1", "'Q01", "", 9), "whole 1 1 | 1 1 | (in 'Q1) (out 'Q01)");
+    assert_eq!(sampled("(define f [] 'A)", "", "'A", "", 9), "whole 1 1 | 1 1 | (in) (out 'A)");
+    assert_eq!(sampled("(define f [e.x e.y] 'A)", "?e7 ?e2", "'A", "", 9), "whole 1 1 | 1 1 | (in 'Q1 'Q2) (out 'A)");
+    assert_eq!(sampled("(define f [] 'A", "", "'A", "", 9), "refused p 3 15");
 }
 
 #[test]

@@ -2,9 +2,9 @@
 use Prim.Native.Nat.{ℕ}
 use mathlib.Core.Bool.{true, false}
 use mathlib.Core.List.{List}
-use Rattle.sets.specs.twins.Restricting.{kindCells}
-use Rattle.sets.specs.declared.restriction.Kind.{Kind}
-use Rattle.sets.specs.declared.restriction.Kind.the-variants.{Contradiction, Redundant, Kept}
+use Rattle.restrictions.specs.twins.Restricting.{kindCells}
+use Rattle.restrictions.specs.declared.restriction.Kind.{Kind}
+use Rattle.restrictions.specs.declared.restriction.Kind.the-variants.{Contradiction, Redundant, Kept}
 use Rattle.heap.specs.declared.configuration.Branches.{Branches}
 
 abbrev pub branchesBy : Kind → Branches

@@ -10,42 +10,19 @@ use lib.Dec.{eqb, leb, ltb}
 use lib.ListN.{length, getD, set, replicate}
 use Rattle.language.specs.Bytes.{txt}
 use Rattle.language.specs.Tokens.{Kind, symbol, ename, aname, tag, keyOf}
-use Rattle.checker.specs.declared.check.Verdict.{Verdict}
-use Rattle.checker.specs.declared.check.Verdict.the-variants.{Fine, Fault}
-use Rattle.checker.specs.declared.check.Walked.{Walked}
-use Rattle.checker.specs.declared.check.Args.{Args}
+use Rattle.verdicts.specs.declared.found.Verdict.{Verdict}
+use Rattle.verdicts.specs.declared.found.Verdict.the-variants.{Fine, Fault}
+use Rattle.verdicts.specs.declared.found.Walked.{Walked}
+use Rattle.verdicts.specs.declared.found.Args.{Args}
 use Rattle.checker.specs.declared.check.Names.{Names}
+pub use Rattle.verdicts.specs.twins.Found.{first, judge, walked, called, arguments}
+unfoldable pub use Rattle.verdicts.specs.twins.Found.{branched}
 use Rattle.checker.specs.declared.check.Defs.{Defs}
 use Rattle.checker.specs.declared.check.Bodies.{Bodies}
-
--- of two faults the first
-abbrev pub first : Verdict → Verdict → Verdict
-first Fine v = v
-first (Fault n o) v = Fault n o
-
--- fault n at offset o unless the test passes
-abbrev pub judge : Bool → ℕ → ℕ → Verdict
-judge true n o = Fine
-judge false n o = Fault n o
 
 -- k tokens on, and no further than the n tokens that there are
 abbrev pub ahead : ℕ → ℕ → ℕ → ℕ
 ahead n k i = cond (ltb n k) n (cond (ltb (n - k) i) n (i + k))
-
-abbrev pub walked : ℕ → Verdict → Verdict → Verdict → Walked
-walked k v b w = record { past = k; names = v; rebound = b; uses = w }
-
--- 7 at the name of a call, then what its arguments have
-abbrev pub called : ℕ → Verdict → Verdict → Walked
-called k v w = walked k Fine Fine (first v w)
-
--- of each group what the condition has, then what the true branch has, then what the false one has
-unfoldable pub branched : ℕ → Walked → Walked → Walked → Walked
-branched k c s u =
-    walked k (first (c .names) (first (s .names) (u .names))) (first (c .rebound) (first (s .rebound) (u .rebound))) (first (c .uses) (first (s .uses) (u .uses)))
-
-abbrev pub arguments : ℕ → Bool → Verdict → Args
-arguments k b v = record { past = k; fits = b; uses = v }
 
 abbrev pub names : List ℕ → ℕ → Names
 names cells used = record { cells = cells; used = used }

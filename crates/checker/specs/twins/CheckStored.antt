@@ -5,9 +5,9 @@ use mathlib.Core.List.{List}
 use Rattle.checker.specs.twins.StoredAt.{keyAt, tagAt, numAt, atAt}
 use Rattle.checker.specs.twins.CheckAt as at
 use Rattle.checker.specs.twins.CheckAt.{names}
-use Rattle.checker.specs.declared.check.Verdict.{Verdict}
-use Rattle.checker.specs.declared.check.Walked.{Walked}
-use Rattle.checker.specs.declared.check.Args.{Args}
+use Rattle.verdicts.specs.declared.found.Verdict.{Verdict}
+use Rattle.verdicts.specs.declared.found.Walked.{Walked}
+use Rattle.verdicts.specs.declared.found.Args.{Args}
 use Rattle.checker.specs.declared.check.Names.{Names}
 use Rattle.checker.specs.declared.check.Defs.{Defs}
 use Rattle.checker.specs.declared.check.Bodies.{Bodies}

@@ -5,7 +5,7 @@ use mathlib.Core.List.{List}
 use lib.Dec.{eqb, ltb}
 use Rattle.heap.specs.declared.configuration.Configuration.{Configuration}
 use Rattle.linking.specs.twins.Code.{linkAt}
-use Rattle.values.specs.twins.Names.{namesFrom}
+use Rattle.values.specs.twins.Names.{namesFrom, namesIn}
 use Rattle.values.specs.twins.Values.{ValueLeft, valueLeft, valueAt}
 use Rattle.values.specs.declared.value.Valued.the-variants.{At, Over}
 use Rattle.looking.specs.twins.Looking.{testAt}
@@ -18,10 +18,6 @@ use Rattle.tracing.specs.declared.ask.Asked.the-variants.{End, Call, Same, Test
 unfoldable pub argumentFrom : List ℕ → ℕ → ℕ → ℕ
 argumentFrom code zero i = i
 argumentFrom code (suc q) i = argumentFrom code q (linkAt code i .past)
-
--- how many names are in reach; those that a `cons?` binds come behind them
-abbrev pub namesIn : Configuration → ℕ
-namesIn c = c .entries - namesFrom c
 
 -- the value of the expression at i
 abbrev pub ownAt : List ℕ → Configuration → ℕ → List ℕ → List ℕ → ValueLeft

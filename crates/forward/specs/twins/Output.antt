@@ -1,10 +1,8 @@
 -- The output of an end in the answer storage, over cells of any content.
-use Prim.Native.Nat.{ℕ, zero, suc, _+_, _-_, min}
+use Prim.Native.Nat.{ℕ, zero, suc, _+_, _-_}
 use mathlib.Core.Bool.{cond}
 use mathlib.Core.List.{List}
-use lib.Dec.{eqb, ltb, leb}
-use lib.ListN.{set}
-use Rattle.sets.specs.twins.Copying.{copied}
+use lib.Dec.{eqb}
 use Rattle.sets.specs.twins.Fill.{FillAnswer, fillAnswer}
 use Rattle.sets.specs.declared.fill.Filled.{Filled}
 use Rattle.sets.specs.declared.fill.Filled.the-variants.{Done, Over}
@@ -15,16 +13,7 @@ use Rattle.values.specs.declared.value.Valued.{Valued}
 use Rattle.values.specs.declared.value.Valued.the-variants.{At, Over as ValuedOver}
 use Rattle.tracing.specs.declared.ask.Asked.{Asked}
 use Rattle.forward.specs.twins.Naming.{namedAt}
-
--- a cell more, where there are fewer than `limit`
-unfoldable pub cellPut : ℕ → ℕ → ℕ → List ℕ → FillAnswer
-cellPut x at limit d = cond (leb limit at) (fillAnswer Over d) (fillAnswer (Done (at + 1)) (set d at x))
-
--- the cells of a range, where there are no more than `limit` then
-unfoldable pub rangePut : ℕ → ℕ → ℕ → ℕ → List ℕ → List ℕ → FillAnswer
-rangePut from to at limit h d =
-    let n = to - min from to in
-    cond (ltb limit at) (fillAnswer Over d) (cond (ltb (limit - at) n) (fillAnswer Over d) (fillAnswer (Done (at + n)) (copied h from n d at .cells)))
+unfoldable pub use Rattle.running.specs.twins.Writing.{cellPut, rangePut}
 
 abbrev pub valuePut : Valued → ℕ → ℕ → List ℕ → List ℕ → FillAnswer
 valuePut (At from to used known) at limit h d = rangePut from to at limit h d

@@ -4,11 +4,11 @@ use mathlib.Core.Bool.{cond}
 use mathlib.Core.List.{List}
 use lib.Dec.{eqb, ltb}
 use lib.ListN.{set}
-use Rattle.sets.specs.twins.Restricting.{RestrictAnswer, restrictAnswer, addCells, bindCells}
+use Rattle.restrictions.specs.twins.Restricting.{RestrictAnswer, restrictAnswer, addCells, bindCells}
 use Rattle.sets.specs.declared.fill.Filled.{Filled}
 use Rattle.sets.specs.declared.fill.Filled.the-variants.{Done, Over as FilledOver}
-use Rattle.sets.specs.declared.restriction.Restricted.{Restricted}
-use Rattle.sets.specs.declared.restriction.Restricted.the-variants.{Kept, Contradiction as Contradictory, Full}
+use Rattle.restrictions.specs.declared.restriction.Restricted.{Restricted}
+use Rattle.restrictions.specs.declared.restriction.Restricted.the-variants.{Kept, Contradiction as Contradictory, Full}
 use Rattle.sets.specs.declared.contraction.Contraction.{Contraction as Coded}
 use Rattle.sets.specs.declared.contraction.Contraction.the-variants.{Identity, Contradiction, Bind, BindPair, NonEqual}
 use Rattle.runs.specs.twins.Runs.{appendedPair}

@@ -3,9 +3,9 @@ use Prim.Native.Nat.{ℕ}
 use mathlib.Core.Bool.{Bool}
 use mathlib.Core.List.{List}
 use lib.ListN.{getD}
-use Rattle.sets.specs.twins.Restricting.{RestrictAnswer}
-use Rattle.sets.specs.declared.restriction.Restricted.{Restricted}
-use Rattle.sets.specs.declared.restriction.Restricted.the-variants.{Kept, Contradiction, Full as NoRoom}
+use Rattle.restrictions.specs.twins.Restricting.{RestrictAnswer}
+use Rattle.restrictions.specs.declared.restriction.Restricted.{Restricted}
+use Rattle.restrictions.specs.declared.restriction.Restricted.the-variants.{Kept, Contradiction, Full as NoRoom}
 use Rattle.syntax.specs.declared.job_ends.JobEnds.{JobEnds}
 use Rattle.heap.specs.twins.Entries.{PushAnswer, pushed}
 use Rattle.heap.specs.declared.entry.Pushed.{Pushed}

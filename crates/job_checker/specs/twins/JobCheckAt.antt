@@ -6,10 +6,10 @@ use mathlib.Core.List.{List}
 use lib.Dec.{eqb, leb}
 use lib.ListN.{getD, set, replicate}
 use Rattle.language.specs.Tokens.{symbol, aname, evariable, avariable, tag}
-use Rattle.checker.specs.declared.check.Verdict.{Verdict}
-use Rattle.checker.specs.declared.check.Verdict.the-variants.{Fine, Fault}
-use Rattle.checker.specs.declared.check.Walked.{Walked}
-use Rattle.checker.specs.declared.check.Args.{Args}
+use Rattle.verdicts.specs.declared.found.Verdict.{Verdict}
+use Rattle.verdicts.specs.declared.found.Verdict.the-variants.{Fine, Fault}
+use Rattle.verdicts.specs.declared.found.Walked.{Walked}
+use Rattle.verdicts.specs.declared.found.Args.{Args}
 use Rattle.checker.specs.twins.CheckAt.{first, judge, ahead, walked, arguments, pick}
 
 -- key, kind, num and at give what a token of the job holds, by its index; there are n. `runs` is whether the tool is the runner.

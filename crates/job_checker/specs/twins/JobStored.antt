@@ -8,9 +8,9 @@ use lib.ListN.{length, getD}
 use Rattle.checker.specs.twins.StoredAt.{keyAt, tagAt, numAt, atAt}
 use Rattle.checker.specs.twins.CheckAt.{ahead}
 use Rattle.job_checker.specs.twins.JobCheckAt as at
-use Rattle.checker.specs.declared.check.Verdict.{Verdict}
-use Rattle.checker.specs.declared.check.Walked.{Walked}
-use Rattle.checker.specs.declared.check.Args.{Args}
+use Rattle.verdicts.specs.declared.found.Verdict.{Verdict}
+use Rattle.verdicts.specs.declared.found.Walked.{Walked}
+use Rattle.verdicts.specs.declared.found.Args.{Args}
 
 -- "Numerals are base ten ... at most 7 digits": v is what the digits before come to, `left` how many more may stand
 unfoldable pub numeralFrom : List ℕ → ℕ → ℕ → ℕ → ℕ

@@ -4,10 +4,10 @@ use mathlib.Core.Bool.{Bool, true, false, cond}
 use mathlib.Core.List.{List, [], _∷_}
 use Rattle.sets.specs.twins.Copying.{CopyAnswer, copied}
 use Rattle.sets.specs.twins.Fill.{FillAnswer, fillAnswer}
-use Rattle.sets.specs.twins.Restricting.{RestrictAnswer, restrictAnswer, simplifyCells}
+use Rattle.restrictions.specs.twins.Restricting.{RestrictAnswer, restrictAnswer, simplifyCells}
 use Rattle.sets.specs.declared.fill.Filled.{Filled}
 use Rattle.sets.specs.declared.fill.Filled.the-variants.{Done, Over}
-use Rattle.sets.specs.declared.restriction.Restricted.the-variants.{Full}
+use Rattle.restrictions.specs.declared.restriction.Restricted.the-variants.{Full}
 use Rattle.syntax.specs.declared.job_ends.JobEnds.{JobEnds}
 use Rattle.runs.specs.twins.Runs.{written}
 use Rattle.layout.specs.twins.Data.{dataWritten}

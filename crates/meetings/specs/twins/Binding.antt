@@ -2,9 +2,9 @@
 use Prim.Native.Nat.{ℕ, _+_}
 use mathlib.Core.List.{List}
 use lib.ListN.{getD}
-use Rattle.sets.specs.twins.Restricting.{RestrictAnswer}
-use Rattle.sets.specs.declared.restriction.Restricted.{Restricted}
-use Rattle.sets.specs.declared.restriction.Restricted.the-variants.{Kept, Contradiction, Full}
+use Rattle.restrictions.specs.twins.Restricting.{RestrictAnswer}
+use Rattle.restrictions.specs.declared.restriction.Restricted.{Restricted}
+use Rattle.restrictions.specs.declared.restriction.Restricted.the-variants.{Kept, Contradiction, Full}
 use Rattle.heap.specs.twins.Contracted.{Stores, contractedEntries}
 use Rattle.heap.specs.twins.Moving.{boundRestriction}
 use Rattle.meetings.specs.twins.Classes.{outputEntry, withNeqs, grownBy}

@@ -1,5 +1,6 @@
 -- The text of a listing in cells.
 use Prim.Native.Nat.{ℕ}
+use mathlib.Core.Bool.{Bool}
 use mathlib.Core.List.{List, [], _∷_, _++_}
 use Rattle.semantics.specs.Walk.{stop21, stop22, stop23, Word, whole, cut, stop}
 use Rattle.listing.specs.Print.{digits, printWord}
@@ -22,6 +23,6 @@ wordText w = printWord (walkWord w) ++ (32 ∷ [])
 unfoldable pub firstText : FirstWord → ℕ → ℕ → List ℕ
 firstText w lines count = wordText w ++ (digits lines ++ (32 ∷ digits count)) ++ (10 ∷ [])
 
--- vars are the cells of the job's inputs and output
-unfoldable pub listingText : (ℕ → List ℕ) → List ℕ → FirstWord → ℕ → ℕ → List ℕ → List ℕ
-listingText name vars w lines count answer = firstText w lines count ++ linesText name vars lines 0 answer
+-- vars are the cells of the job's inputs and output; with samples, or without
+unfoldable pub listingText : (ℕ → List ℕ) → List ℕ → Bool → FirstWord → ℕ → ℕ → List ℕ → List ℕ
+listingText name vars samples w lines count answer = firstText w lines count ++ linesText name vars samples lines 0 answer

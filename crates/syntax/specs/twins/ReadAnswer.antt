@@ -7,8 +7,8 @@ use Rattle.language.specs.Bytes as bytes
 use Rattle.language.specs.Reader.{Res, ok, refused}
 use Rattle.words.specs.declared.got.Got.{Got}
 use Rattle.words.specs.declared.got.Got.the-variants.{Past, Refused}
-use Rattle.checker.specs.declared.check.Verdict.{Verdict}
-use Rattle.checker.specs.declared.check.Verdict.the-variants.{Fine, Fault}
+use Rattle.verdicts.specs.declared.found.Verdict.{Verdict}
+use Rattle.verdicts.specs.declared.found.Verdict.the-variants.{Fine, Fault}
 use Rattle.grammar.specs.twins.Positions.{onPast}
 use Rattle.words.specs.twins.Cutting.{bytesAt}
 use Rattle.grammar.specs.twins.Stored as stored

@@ -3,14 +3,23 @@ use Prim.Native.Nat.{ℕ, zero, suc, _+_, _-_, _*_, _/_, _%_}
 use mathlib.Core.Bool.{cond}
 use mathlib.Core.List.{List, [], _∷_, _++_}
 use lib.Dec.{eqb, ltb}
-use lib.ListN.{length, getD, replicate}
+use lib.ListN.{length, getD, drop, replicate}
 use Rattle.language.specs.Bytes.{txt}
 use Rattle.listing.specs.Print.{digits}
+use Rattle.listing.specs.Sample.{nameQ}
 use Rattle.lexer.specs.twins.Table.{wordIn}
 
--- the word of the symbol n, in the program or the job; one that the table has not has no name
-unfoldable pub symbolText : List ℕ → List ℕ → List ℕ → ℕ → List ℕ
-symbolText program job symbols n = cond (ltb (2 * n + 1) (length symbols)) (wordIn program job (getD symbols (2 * n + 1) 0)) (39 ∷ [])
+-- The name of the symbol n: in the program or the job, and from 1,024 on a new atom's, by its number. A table has two cells for each symbol of
+-- the texts; one for samples has 2,048 of them, then the numbers of the new atoms.
+unfoldable pub symbolName : List ℕ → List ℕ → List ℕ → ℕ → List ℕ
+symbolName program job symbols n =
+    cond (ltb n 1024)
+    (cond (ltb (2 * n + 1) (length symbols)) (drop 1 (wordIn program job (getD symbols (2 * n + 1) 0))) [])
+    (cond (ltb (1024 + n) (length symbols)) (nameQ (getD symbols (1024 + n) 0)) [])
+
+-- a quote before it; a symbol that the table has not has no name
+abbrev pub symbolText : List ℕ → List ℕ → List ℕ → ℕ → List ℕ
+symbolText program job symbols n = 39 ∷ symbolName program job symbols n
 
 unfoldable pub leafText : (ℕ → List ℕ) → ℕ → List ℕ
 leafText name c =

@@ -1,7 +1,7 @@
 -- The text of a line in cells: its steps, how many cells its inputs and its output have, how many non-equalities there are, then the
 -- cells of these.
 use Prim.Native.Nat.{ℕ, zero, suc, _+_, _*_, _%_, min}
-use mathlib.Core.Bool.{cond}
+use mathlib.Core.Bool.{Bool, cond}
 use mathlib.Core.List.{List, [], _∷_, _++_}
 use lib.Dec.{eqb, ltb}
 use lib.ListN.{length, getD, drop}
@@ -9,6 +9,8 @@ use Rattle.language.specs.Bytes.{txt}
 use Rattle.listing.specs.Print.{digits}
 use Rattle.sets.specs.twins.Copying.{part, treeEnd, standsIn}
 use Rattle.window.specs.twins.TreeText.{leafText, treeText}
+use Rattle.writer.specs.twins.LineCells.{classEnd, lineEnd}
+use Rattle.writer.specs.twins.SampleText.{sampleIf}
 
 -- where the line goes on behind what stands at k beside the job's cell c
 unfoldable pub pastAt : ℕ → List ℕ → ℕ → ℕ
@@ -42,21 +44,14 @@ module _ (name : ℕ → List ℕ) where
   restrictionText (x ∷ []) = []
   restrictionText (x ∷ y ∷ q) = nonEqualityText x y ++ restrictionText q
 
--- behind a line's inputs and output, and behind the line
-abbrev pub classEnd : List ℕ → ℕ
-classEnd l = 4 + getD l 1 0 + getD l 2 0
-
-abbrev pub lineEnd : List ℕ → ℕ
-lineEnd l = 4 + getD l 1 0 + getD l 2 0 + 2 * getD l 3 0
-
 module _ (name : ℕ → List ℕ) (vars : List ℕ) where
   -- the line number i, at the front of l
   unfoldable pub lineText : ℕ → List ℕ → List ℕ
   lineText i l =
       (digits i ++ (32 ∷ digits (getD l 0 0))) ++ bindingsText name vars (part 4 (classEnd l) l) ++ restrictionText name (part (classEnd l) (lineEnd l) l) ++ (10 ∷ [])
 
-  -- n lines behind the line number i, but no more than stand in l
-  unfoldable pub linesText : ℕ → ℕ → List ℕ → List ℕ
-  linesText zero i l = []
-  linesText (suc n) i [] = []
-  linesText (suc n) i (x ∷ l) = lineText (i + 1) (x ∷ l) ++ linesText n (i + 1) (drop (lineEnd (x ∷ l)) (x ∷ l))
+  -- n lines behind the line number i, but no more than stand in l; where samples are called for, each with its own under it
+  unfoldable pub linesText : Bool → ℕ → ℕ → List ℕ → List ℕ
+  linesText samples zero i l = []
+  linesText samples (suc n) i [] = []
+  linesText samples (suc n) i (x ∷ l) = (lineText (i + 1) (x ∷ l) ++ sampleIf name samples (x ∷ l)) ++ linesText samples n (i + 1) (drop (lineEnd (x ∷ l)) (x ∷ l))

@@ -17,7 +17,7 @@ struct Case {
     job: String,
 }
 
-const ENTRIES: [&str; 5] = ["list", "list_print", "run", "print_list", "print_run"];
+const ENTRIES: [&str; 8] = ["list", "list_print", "list_sampled", "sample", "run", "print_list", "print_sampled", "print_run"];
 
 const JOB: &str = "(job (in 'A) (out 'A) (neq) (steps 9) (walk 9) (table 9))";
 
@@ -98,8 +98,11 @@ fn call(entry: &str, texts: &Case) {
     match entry {
         "list" => _ = raugvite::list_in(program, job, &mut work, &mut answer),
         "list_print" => _ = raugvite::list_print_in(program, job, &mut work, &mut answer, &mut [0; 64]),
+        "list_sampled" => _ = raugvite::list_print_sampled_in(program, job, &mut work, &mut answer, &mut vec![0; 65536]),
+        "sample" => _ = raugvite::sample_in(&[1, 1, 1, 0, 6, 6], 1, &mut vec![0; 4096]),
         "run" => _ = raugvite::run_in(program, job, &mut work, &mut answer),
         "print_list" => _ = raugvite::print_list(program, job, Listed::Whole { lines: 2, transitions: 2 }, &answer),
+        "print_sampled" => _ = raugvite::print_sampled(program, job, Listed::Whole { lines: 2, transitions: 2 }, &answer),
         _ => _ = raugvite::print_run(program, job, raugvite::Ran::Value { steps: 1, length: 1 }, &answer),
     }
 }
@@ -145,9 +148,9 @@ fn least(entry: &str, number: usize) -> usize {
 }
 
 fn measure() {
-    println!("{:44} {}", "", ENTRIES.map(|e| format!("{e:>12}")).concat());
+    println!("{:44} {}", "", ENTRIES.map(|e| format!("{e:>14}")).concat());
     for (number, texts) in cases().iter().enumerate() {
-        let row = ENTRIES.map(|e| format!("{:12}", least(e, number))).concat();
+        let row = ENTRIES.map(|e| format!("{:14}", least(e, number))).concat();
         println!("{:44} {row}", texts.name);
     }
 }

@@ -106,12 +106,15 @@ impl Reader<'_> {
     }
 }
 
-fn json(listing: &Listing) -> Value {
-    let text = listing.to_json();
-    let mut reader = Reader(&text);
+fn parsed(text: &str) -> Value {
+    let mut reader = Reader(text);
     let value = reader.value();
     assert_eq!(reader.0, "");
     value
+}
+
+fn json(listing: &Listing) -> Value {
+    parsed(&listing.to_json())
 }
 
 // The printed listing, from its JSON alone.
@@ -143,6 +146,13 @@ fn printed(listing: &Value) -> String {
             text += &format!(" # {left} {right}");
         }
         text += "\n";
+        if let Some(sample) = line.get("sample") {
+            let inputs = sample.list("inputs").iter().map(|input| match input {
+                Value::Text(input) => format!(" {input}"),
+                _ => panic!("a text"),
+            });
+            text += &format!("(in{}) (out {})\n", inputs.collect::<String>(), sample.text("output"));
+        }
     }
     text
 }
@@ -150,6 +160,7 @@ fn printed(listing: &Value) -> String {
 fn agree(name: &str, listing: &Listing) {
     let value = json(listing);
     assert!(printed(&value).as_bytes() == listing.text(), "{name}");
+    assert!(printed(&parsed(&listing.to_json_with_samples())).as_bytes() == listing.sampled_text(), "{name}");
     // Who asks for "lines" finds all of them or none.
     assert_eq!(value.get("lines").is_some(), listing.is_whole(), "{name}");
     let keys = ["lines", "lines_within_steps", "lines_before_stop"];

@@ -1,5 +1,5 @@
 //! The lines, against the text that is printed of them.
-use crate::texts::{generated, written, Texts};
+use crate::texts::{generated, job, written, Texts};
 use raugvite::{list, Binding, Expression, Listing};
 
 fn tokens(job: &str) -> Vec<&str> {
@@ -65,6 +65,30 @@ fn agree(texts: &Texts, listing: &Listing) {
     assert!(format!("{listing}\n") == text, "{name}");
 }
 
+// The text with samples is the text, with each sample under its line; the names of new atoms are those that are printed.
+fn samples_agree(texts: &Texts, listing: &Listing) {
+    let text = String::from_utf8(listing.text().to_vec()).unwrap();
+    let mut lines = text.lines();
+    let mut due = lines.next().map(|first| format!("{first}\n")).unwrap_or_default();
+    for (line, sample) in lines.zip(listing.samples_found()) {
+        due += &format!("{line}\n{sample}\n");
+    }
+    assert_eq!(listing.samples_found().len(), listing.lines_found().len(), "{}", texts.name);
+    assert!(due.as_bytes() == listing.sampled_text(), "{}", texts.name);
+}
+
+// Symbols with the names that new atoms would have.
+#[test]
+fn names_of_new_atoms() {
+    let job = job("?e1 ?e2 ?e1", "(cons ?e3 ?a4)", "[?a4 'Q3]", [9, 9, 9]);
+    let program = "(define f [e.x e.y e.z] (cons (cons e.x 'Q02) 'Q1))(define g [] 'Q5)";
+    let texts = Texts { name: "names".into(), program: program.into(), job: job.into() };
+    let listing = list(&texts.program, &texts.job);
+    samples_agree(&texts, &listing);
+    assert_eq!(listing.samples_found()[0].to_string(), "(in 'Q2 'Q4 'Q2) (out (cons (cons 'Q2 'Q02) 'Q1))");
+    assert_eq!(format!("{:#}", listing.samples_found()[0]), "(in 'Q2 'Q4 'Q2) (out ('Q2:'Q02):'Q1)");
+}
+
 #[test]
 fn written_texts() {
     let all = written();
@@ -73,6 +97,7 @@ fn written_texts() {
     for texts in &all {
         let listing = list(&texts.program, &texts.job);
         agree(texts, &listing);
+        samples_agree(texts, &listing);
         lines += listing.lines_found().len();
     }
     assert!(lines > 100, "{lines}");
@@ -84,6 +109,7 @@ fn generated_texts() {
     for texts in generated(500) {
         let listing = list(&texts.program, &texts.job);
         agree(&texts, &listing);
+        samples_agree(&texts, &listing);
         lines += listing.lines_found().len();
     }
     assert!(lines > 500, "{lines}");

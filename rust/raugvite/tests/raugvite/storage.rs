@@ -1,6 +1,9 @@
 //! Lent storage: too short, longer than it must be, and what is left in it.
 use crate::texts::{generated, job, read, DUB, SAME};
-use raugvite::{list, list_in, list_lengths, list_print_in, print_list, print_run, run, run_in, run_lengths, Listed, Ran};
+use raugvite::{
+    list, list_in, list_lengths, list_print_in, list_print_sampled_in, print_list, print_run, print_sampled, run, run_in, run_lengths,
+};
+use raugvite::{sample_in, sample_length, Listed, Ran, Sampled};
 
 // Numbers that look like anything.
 fn garbage(length: usize) -> Vec<u16> {
@@ -13,7 +16,7 @@ fn p1() -> (Vec<u8>, Vec<u8>) {
 
 #[test]
 fn the_least_lengths() {
-    assert_eq!((list_lengths(), run_lengths()), ((8194, 17408), (8194, 4096)));
+    assert_eq!((list_lengths(), run_lengths(), sample_length()), ((8194, 17408), (8194, 4096), 4096));
 }
 
 // 20 comes before all else and touches nothing.
@@ -58,6 +61,46 @@ fn storage_longer_than_it_must_be() {
     let second = 4 + 4 + 1;
     assert_eq!(answer[first + second..][..9], third);
     assert!(answer[first + second + 9..].iter().all(|&cell| cell == 0));
+}
+
+#[test]
+fn storage_of_a_sample() {
+    let (program, job) = p1();
+    let (w, a) = list_lengths();
+    let (mut work, mut answer) = (garbage(w), garbage(a));
+    let _ = list_in(&program, &job, &mut work, &mut answer);
+    let mut sample = garbage(4103);
+    // The first line: (cons ?e3 ?e4) and ?e2, new atoms by first standing.
+    assert_eq!(sample_in(&answer, 1, &mut sample), Sampled::Done { inputs: 4, output: 1 });
+    assert_eq!(sample[..5], [4, 4 * 1024 + 1, 4 * 1025 + 1, 4 * 1026 + 1, 1]);
+    assert!(sample[5..].iter().all(|&cell| cell == 0));
+    for (line, length, due) in
+        [(1, 4095, Sampled::Short), (4, 4095, Sampled::Short), (0, 4096, Sampled::Absent), (4, 4096, Sampled::Absent)]
+    {
+        let mut sample = garbage(length);
+        assert_eq!(sample_in(&answer, line, &mut sample), due);
+        assert!(sample == garbage(length));
+    }
+    assert_eq!(sample_in(&answer, usize::MAX, &mut sample), Sampled::Absent);
+    assert_eq!(sample_in(&[], 1, &mut sample), Sampled::Absent);
+}
+
+// The first page with samples, and all of the text.
+#[test]
+fn pages_with_samples() {
+    let texts = read("crates/long_listing/data/prog.tsg", "crates/long_listing/data/job.txt");
+    let (w, a) = list_lengths();
+    let (mut work, mut answer) = (garbage(w), garbage(a));
+    let listing = list(&texts.program, &texts.job);
+    let due = listing.sampled_text();
+    assert!(due.len() > listing.text().len());
+    for room in [0, 1, 100, 4096, due.len(), due.len() + 1] {
+        let mut page = vec![b'?'; room];
+        let (said, bytes) = list_print_sampled_in(&texts.program, &texts.job, &mut work, &mut answer, &mut page);
+        assert_eq!((said, bytes), (listing.answer(), room.min(due.len())));
+        assert!(page[..bytes] == due[..bytes] && page[bytes..].iter().all(|&b| b == 0));
+    }
+    assert!(print_sampled(&texts.program, &texts.job, listing.answer(), &answer) == due);
 }
 
 #[test]

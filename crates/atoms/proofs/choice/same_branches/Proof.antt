@@ -5,7 +5,7 @@ use Rattle.atoms.proofs.choice.same_branches.Tie as tie
 use Rattle.atoms.proofs.choice.same_branches.Reads as reads
 use Rattle.atoms.proofs.choice.same_branches.Lts as lts
 use Rattle.atoms.proofs.choice.branches_by.Reads as branches-by-reads
-use Rattle.sets.proofs.restriction.kind_of.Reads as kind-of-reads
+use Rattle.restrictions.proofs.restriction.kind_of.Reads as kind-of-reads
 
 kind-of-requires : tie.Need-kind-of-requires
 kind-of-requires c κs = search needs

@@ -7,7 +7,7 @@ use borrow.Fn.PlainCycle.{Measures, is, falls, and}
 use Rattle.checker.proofs.check_expressions.exp.Reads as exp
 use Rattle.checker.proofs.check_expressions.exp.Kinds as exp-kinds
 use Rattle.checker.proofs.check_expressions.+exp.Lts-exp as exp-lts
-use Rattle.checker.proofs.check.first.Reads as first-reads
+use Rattle.verdicts.proofs.found.first.Reads as first-reads
 use Rattle.checker.proofs.check_expressions.leaf.Reads as leaf-reads
 use Rattle.checker.proofs.places.ahead.Reads as ahead-reads
 use Rattle.checker.proofs.places.key.Reads as key-reads

@@ -1,7 +1,7 @@
 use borrow.Author.Tests.{eq-eqb, ne-eqb}
 use mathlib.Core.Path.{_≡_}
 use mathlib.Core.Bool.{true}
-use Rattle.checker.specs.declared.check.Verdict.the-variants.{Fine}
+use Rattle.verdicts.specs.declared.found.Verdict.the-variants.{Fine}
 use Rattle.checker.specs.twins.CheckStored.{argsAt}
 use Rattle.checker.proofs.CheckOpenings.{not-zero, is-zero, args-more, args-none}
 use borrow.Author.Needs.{needs}
@@ -9,9 +9,9 @@ use Rattle.checker.proofs.check_expressions.args.Statement.{statement}
 use Rattle.checker.proofs.check_expressions.args.Tie as tie
 use Rattle.checker.proofs.check_expressions.args.Reads as reads
 use Rattle.checker.proofs.check_expressions.args.Lts as lts
-use Rattle.checker.proofs.check.both.Reads as both-reads
-use Rattle.checker.proofs.check.first.Reads as first-reads
-use Rattle.checker.proofs.check.negated.Reads as negated-reads
+use Rattle.verdicts.proofs.truth.both.Reads as both-reads
+use Rattle.verdicts.proofs.found.first.Reads as first-reads
+use Rattle.verdicts.proofs.truth.negated.Reads as negated-reads
 use Rattle.checker.proofs.check_expressions.arg.Reads as arg-reads
 use Rattle.checker.proofs.places.ahead.Reads as ahead-reads
 use Rattle.checker.proofs.places.key.Reads as key-reads

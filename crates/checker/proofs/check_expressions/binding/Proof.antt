@@ -4,13 +4,12 @@ use Rattle.checker.proofs.check_expressions.binding.Statement.{statemen
 use Rattle.checker.proofs.check_expressions.binding.Tie as tie
 use Rattle.checker.proofs.check_expressions.binding.Reads as reads
 use Rattle.checker.proofs.check_expressions.binding.Lts as lts
-use Rattle.checker.proofs.check.first.Reads as first-reads
-use Rattle.checker.proofs.check.judge.Reads as judge-reads
-use Rattle.checker.proofs.check.negated.Reads as negated-reads
 use Rattle.checker.proofs.check_expressions.new_name.Reads as new-name-reads
 use Rattle.checker.proofs.places.ahead.Reads as ahead-reads
 use Rattle.checker.proofs.places.num.Reads as num-reads
 use Rattle.checker.proofs.places.offset.Reads as offset-reads
+use Rattle.verdicts.proofs.found.first.Reads as first-reads
+use Rattle.verdicts.proofs.names.bound_twice.Reads as bound-twice-reads
 
 ahead-requires : tie.Need-ahead-requires
 ahead-requires c κs = search needs
@@ -24,14 +23,11 @@ num-requires c κs = search needs
 num-requires-2 : tie.Need-num-requires-2
 num-requires-2 c κs = search needs
 
-negated-requires : tie.Need-negated-requires
-negated-requires c κs = search needs
-
 offset-requires : tie.Need-offset-requires
 offset-requires c κs = search needs
 
-judge-requires : tie.Need-judge-requires
-judge-requires c κs = search needs
+bound-twice-requires : tie.Need-bound-twice-requires
+bound-twice-requires c κs = search needs
 
 new-name-requires : tie.Need-new-name-requires
 new-name-requires c κs = search needs
@@ -61,8 +57,7 @@ returns c =
     let c8 = c7 .before in
     let c9 = c8 .before in
     let c10 = c9 .before in
-    let c11 = c10 .before in
-    rw (← (c11 .ahead .ensures), ← (c10 .ahead2 .ensures), ← (c4 .new-name .ensures), ← (c3 .new-name2 .ensures), ← (c2 .new-name3 .ensures), ← (c9 .num .ensures), ← (c8 .num2 .ensures), ← (c7 .negated .ensures), ← (c6 .offset .ensures), ← (c5 .judge .ensures), ← (c1 .first .ensures), ← (c .first2 .ensures))
+    rw (← (c10 .ahead .ensures), ← (c9 .ahead2 .ensures), ← (c4 .new-name .ensures), ← (c3 .new-name2 .ensures), ← (c2 .new-name3 .ensures), ← (c8 .num .ensures), ← (c7 .num2 .ensures), ← (c6 .offset .ensures), ← (c5 .bound-twice .ensures), ← (c1 .first .ensures), ← (c .first2 .ensures))
 
 pub binding-spec : {M : Type 1} → statement M
 binding-spec =
@@ -72,9 +67,8 @@ binding-spec =
     ahead-requires-2
     num-requires
     num-requires-2
-    negated-requires
     offset-requires
-    judge-requires
+    bound-twice-requires
     new-name-requires
     new-name-requires-2
     new-name-requires-3

@@ -4,8 +4,8 @@ use Rattle.checker.proofs.check_expressions.ea.Statement.{statement}
 use Rattle.checker.proofs.check_expressions.ea.Tie as tie
 use Rattle.checker.proofs.check_expressions.ea.Reads as reads
 use Rattle.checker.proofs.check_expressions.ea.Lts as lts
-use Rattle.checker.proofs.check.first.Reads as first-reads
-use Rattle.checker.proofs.check.judge.Reads as judge-reads
+use Rattle.verdicts.proofs.found.first.Reads as first-reads
+use Rattle.verdicts.proofs.found.judge.Reads as judge-reads
 use Rattle.checker.proofs.check_expressions.atomic.Reads as atomic-reads
 use Rattle.checker.proofs.check_expressions.exp.Reads as exp-reads
 use Rattle.checker.proofs.places.offset.Reads as offset-reads

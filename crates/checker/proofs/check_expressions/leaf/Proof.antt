@@ -4,7 +4,7 @@ use Rattle.checker.proofs.check_expressions.leaf.Statement.{statement}
 use Rattle.checker.proofs.check_expressions.leaf.Tie as tie
 use Rattle.checker.proofs.check_expressions.leaf.Reads as reads
 use Rattle.checker.proofs.check_expressions.leaf.Lts as lts
-use Rattle.checker.proofs.check.judge.Reads as judge-reads
+use Rattle.verdicts.proofs.names.used_name.Reads as used-name-reads
 use Rattle.checker.proofs.check_expressions.is_named.Reads as is-named-reads
 use Rattle.checker.proofs.places.ahead.Reads as ahead-reads
 use Rattle.checker.proofs.places.kind.Reads as kind-reads
@@ -28,8 +28,8 @@ is-named-requires c κs = search needs
 offset-requires : tie.Need-offset-requires
 offset-requires c κs = search needs
 
-judge-requires : tie.Need-judge-requires
-judge-requires c κs = search needs
+used-name-requires : tie.Need-used-name-requires
+used-name-requires c κs = search needs
 
 returns-2 : tie.Need-returns-2
 returns-2 c =
@@ -38,7 +38,7 @@ returns-2 c =
     let c3 = c2 .before in
     let c4 = c3 .before in
     let c5 = c4 .before in
-    rw (← (c5 .ahead .ensures), ← (c4 .kind .ensures), ne-eqb _ _ (c3 .if1 .left), ← (c2 .is-named .ensures), ← (c1 .offset .ensures), ← (c .judge .ensures))
+    rw (← (c5 .ahead .ensures), ← (c4 .kind .ensures), ne-eqb _ _ (c3 .if1 .left), ← (c2 .is-named .ensures), ← (c1 .offset .ensures), ← (c .used-name .ensures))
 
 pub leaf-spec : {M : Type 1} → statement M
 leaf-spec =
@@ -49,5 +49,5 @@ leaf-spec =
     returns
     is-named-requires
     offset-requires
-    judge-requires
+    used-name-requires
     returns-2)

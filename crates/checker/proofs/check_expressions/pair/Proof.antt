@@ -3,7 +3,7 @@ use Rattle.checker.proofs.check_expressions.pair.Statement.{statement}
 use Rattle.checker.proofs.check_expressions.pair.Tie as tie
 use Rattle.checker.proofs.check_expressions.pair.Reads as reads
 use Rattle.checker.proofs.check_expressions.pair.Lts as lts
-use Rattle.checker.proofs.check.first.Reads as first-reads
+use Rattle.verdicts.proofs.found.first.Reads as first-reads
 use Rattle.checker.proofs.check_expressions.exp.Reads as exp-reads
 use Rattle.checker.proofs.places.ahead.Reads as ahead-reads
 

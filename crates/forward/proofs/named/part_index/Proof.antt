@@ -6,7 +6,7 @@ use Rattle.forward.proofs.named.part_index.Reads as reads
 use Rattle.forward.proofs.named.part_index.Lts as lts
 use Rattle.cells.proofs.cell.wide.Reads as wide-reads
 use Rattle.forward.proofs.named.inner.Reads as inner-reads
-use Rattle.forward.proofs.named.names_in.Reads as names-in-reads
+use Rattle.values.proofs.names.names_in.Reads as names-in-reads
 use Rattle.linking.proofs.code.link_at.Reads as link-at-reads
 
 names-in-requires : tie.Need-names-in-requires

@@ -6,7 +6,7 @@ use Rattle.forward.proofs.named.tested_value.Tie as tie
 use Rattle.forward.proofs.named.tested_value.Reads as reads
 use Rattle.forward.proofs.named.tested_value.Lts as lts
 use Rattle.cells.proofs.cell.wide.Reads as wide-reads
-use Rattle.forward.proofs.named.names_in.Reads as names-in-reads
+use Rattle.values.proofs.names.names_in.Reads as names-in-reads
 use Rattle.forward.proofs.named.own_value.Reads as own-value-reads
 use Rattle.forward.proofs.named.part_index.Reads as part-index-reads
 use Rattle.forward.proofs.named.plain.Reads as plain-reads

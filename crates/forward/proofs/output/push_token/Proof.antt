@@ -6,7 +6,7 @@ use Rattle.forward.proofs.output.push_token.Tie as tie
 use Rattle.forward.proofs.output.push_token.Reads as reads
 use Rattle.forward.proofs.output.push_token.Lts as lts
 use Rattle.forward.proofs.named.name_value.Reads as name-value-reads
-use Rattle.forward.proofs.output.put_cell.Reads as put-cell-reads
+use Rattle.running.proofs.writing.put_cell.Reads as put-cell-reads
 use Rattle.forward.proofs.output.put_value.Reads as put-value-reads
 use Rattle.linking.proofs.code.link_at.Reads as link-at-reads
 

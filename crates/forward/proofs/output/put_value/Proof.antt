@@ -3,7 +3,7 @@ use Rattle.forward.proofs.output.put_value.Statement.{statement}
 use Rattle.forward.proofs.output.put_value.Tie as tie
 use Rattle.forward.proofs.output.put_value.Reads as reads
 use Rattle.forward.proofs.output.put_value.Lts as lts
-use Rattle.forward.proofs.output.put_range.Reads as put-range-reads
+use Rattle.running.proofs.writing.put_range.Reads as put-range-reads
 
 enum-known-v : tie.Need-enum-known-v
 enum-known-v c = search needs

@@ -4,6 +4,7 @@ use Rattle.grammar.proofs.definitions.definition.Statement.{statement}
 use Rattle.grammar.proofs.definitions.definition.Tie as tie
 use Rattle.grammar.proofs.definitions.definition.Reads as reads
 use Rattle.grammar.proofs.definitions.definition.Lts as lts
+use Rattle.bounds.proofs.text.brackets_inside.Reads as brackets-inside-reads
 use Rattle.grammar.proofs.definitions.parameters.Reads as parameters-reads
 use Rattle.grammar.proofs.readers.the.Reads as the-reads
 use Rattle.grammar.proofs.readers.the_in.Reads as the-in-reads
@@ -28,6 +29,9 @@ parameters-requires c κs = search needs
 the-requires-3 : tie.Need-the-requires-3
 the-requires-3 c κs = search needs
 
+brackets-inside-requires : tie.Need-brackets-inside-requires
+brackets-inside-requires c κs = search needs
+
 term-requires : tie.Need-term-requires
 term-requires c κs = search needs
 
@@ -36,7 +40,7 @@ the-requires-4 c κs = search needs
 
 returns : tie.Need-returns
 returns c =
-    rw (definition-opens, ← (c .before .before .before .before .before .before .before .the-in .ensures), ← (c .before .before .before .before .before .before .the .ensures), ← (c .before .before .before .before .before .word .ensures), ← (c .before .before .before .before .the2 .ensures), ← (c .before .before .before .parameters .ensures), ← (c .before .before .the3 .ensures), ← (c .before .term .ensures)) (c .the4 .ensures)
+    rw (definition-opens, ← (c .before .before .before .before .before .before .before .before .the-in .ensures), ← (c .before .before .before .before .before .before .before .the .ensures), ← (c .before .before .before .before .before .before .word .ensures), ← (c .before .before .before .before .before .the2 .ensures), ← (c .before .before .before .before .parameters .ensures), ← (c .before .before .before .the3 .ensures), ← (c .before .before .brackets-inside .ensures), ← (c .before .term .ensures)) (c .the4 .ensures)
 
 pub definition-spec : {M : Type 1} → statement M
 definition-spec =
@@ -48,6 +52,7 @@ definition-spec =
     the-requires-2
     parameters-requires
     the-requires-3
+    brackets-inside-requires
     term-requires
     the-requires-4
     returns)

@@ -7,6 +7,7 @@ use Rattle.grammar.proofs.definitions.definitions_from.Statement.{state
 use Rattle.grammar.proofs.definitions.definitions_from.Tie as tie
 use Rattle.grammar.proofs.definitions.definitions_from.Reads as reads
 use Rattle.grammar.proofs.definitions.definitions_from.Lts as lts
+use Rattle.bounds.proofs.program.definitions_behind.Reads as definitions-behind-reads
 use Rattle.grammar.proofs.definitions.definition.Reads as definition-reads
 use Rattle.grammar.proofs.marks.key.Reads as key-reads
 use Rattle.grammar.proofs.readers.wrong.Reads as wrong-reads
@@ -18,8 +19,11 @@ Inv-loop marks ats start room₀ at₀ room at =
 abbrev μ-loop : tie.MeasureT-loop
 μ-loop marks ats start room₀ at₀ room at = room
 
+definitions-behind-requires : tie.Need-definitions-behind-requires Inv-loop μ-loop
+definitions-behind-requires c κs = search needs
+
 loop-holds : tie.Need-loop-holds Inv-loop μ-loop
-loop-holds c = search needs
+loop-holds c = rw (c .definitions-behind .ensures)
 
 key-requires : tie.Need-key-requires Inv-loop μ-loop
 key-requires c κs = search needs
@@ -74,6 +78,7 @@ definitions-from-spec =
     (tie.spec
     Inv-loop
     μ-loop
+    definitions-behind-requires
     loop-holds
     key-requires
     returns

@@ -7,6 +7,7 @@ use Rattle.grammar.proofs.definitions.parameters_from.Statement.{statem
 use Rattle.grammar.proofs.definitions.parameters_from.Tie as tie
 use Rattle.grammar.proofs.definitions.parameters_from.Reads as reads
 use Rattle.grammar.proofs.definitions.parameters_from.Lts as lts
+use Rattle.bounds.proofs.program.parameters_listed.Reads as parameters-listed-reads
 use Rattle.grammar.proofs.definitions.parameter.Reads as parameter-reads
 use Rattle.grammar.proofs.marks.key.Reads as key-reads
 use Rattle.grammar.proofs.readers.wrong.Reads as wrong-reads
@@ -18,8 +19,11 @@ Inv-loop marks ats start room₀ at₀ room at =
 abbrev μ-loop : tie.MeasureT-loop
 μ-loop marks ats start room₀ at₀ room at = room
 
+parameters-listed-requires : tie.Need-parameters-listed-requires Inv-loop μ-loop
+parameters-listed-requires c κs = search needs
+
 loop-holds : tie.Need-loop-holds Inv-loop μ-loop
-loop-holds c = search needs
+loop-holds c = rw (c .parameters-listed .ensures)
 
 key-requires : tie.Need-key-requires Inv-loop μ-loop
 key-requires c κs = search needs
@@ -74,6 +78,7 @@ parameters-from-spec =
     (tie.spec
     Inv-loop
     μ-loop
+    parameters-listed-requires
     loop-holds
     key-requires
     returns

@@ -7,7 +7,7 @@ use borrow.Fn.PlainCycle.{Measures, is, falls, and}
 use Rattle.job_checker.proofs.check_job.datum.Reads as datum
 use Rattle.job_checker.proofs.check_job.datum.Kinds as datum-kinds
 use Rattle.job_checker.proofs.check_job.+datum.Lts-datum as datum-lts
-use Rattle.checker.proofs.check.first.Reads as first-reads
+use Rattle.verdicts.proofs.found.first.Reads as first-reads
 use Rattle.job_checker.proofs.check_job.datum_leaf.Reads as datum-leaf-reads
 use Rattle.checker.proofs.places.ahead.Reads as ahead-reads
 use Rattle.checker.proofs.places.key.Reads as key-reads

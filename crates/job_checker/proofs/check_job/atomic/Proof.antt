@@ -3,8 +3,8 @@ use Rattle.job_checker.proofs.check_job.atomic.Statement.{statement}
 use Rattle.job_checker.proofs.check_job.atomic.Tie as tie
 use Rattle.job_checker.proofs.check_job.atomic.Reads as reads
 use Rattle.job_checker.proofs.check_job.atomic.Lts as lts
-use Rattle.checker.proofs.check.both.Reads as both-reads
-use Rattle.checker.proofs.check.negated.Reads as negated-reads
+use Rattle.verdicts.proofs.truth.both.Reads as both-reads
+use Rattle.verdicts.proofs.truth.negated.Reads as negated-reads
 use Rattle.checker.proofs.places.key.Reads as key-reads
 use Rattle.checker.proofs.places.kind.Reads as kind-reads
 

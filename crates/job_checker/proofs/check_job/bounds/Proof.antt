@@ -3,8 +3,11 @@ use Rattle.job_checker.proofs.check_job.bounds.Statement.{statement}
 use Rattle.job_checker.proofs.check_job.bounds.Tie as tie
 use Rattle.job_checker.proofs.check_job.bounds.Reads as reads
 use Rattle.job_checker.proofs.check_job.bounds.Lts as lts
-use Rattle.checker.proofs.check.first.Reads as first-reads
-use Rattle.checker.proofs.check.judge.Reads as judge-reads
+use Rattle.bounds.proofs.job.is_steps.Reads as is-steps-reads
+use Rattle.bounds.proofs.job.is_table.Reads as is-table-reads
+use Rattle.bounds.proofs.job.is_walk.Reads as is-walk-reads
+use Rattle.verdicts.proofs.found.first.Reads as first-reads
+use Rattle.verdicts.proofs.found.judge.Reads as judge-reads
 use Rattle.job_checker.proofs.check_job.numeral.Reads as numeral-reads
 use Rattle.checker.proofs.places.ahead.Reads as ahead-reads
 use Rattle.checker.proofs.places.offset.Reads as offset-reads
@@ -30,17 +33,26 @@ offset-requires-3 c κs = search needs
 numeral-requires : tie.Need-numeral-requires
 numeral-requires c κs = search needs
 
+is-steps-requires : tie.Need-is-steps-requires
+is-steps-requires c κs = search needs
+
 judge-requires : tie.Need-judge-requires
 judge-requires c κs = search needs
 
 numeral-requires-2 : tie.Need-numeral-requires-2
 numeral-requires-2 c κs = search needs
 
+is-walk-requires : tie.Need-is-walk-requires
+is-walk-requires c κs = search needs
+
 judge-requires-2 : tie.Need-judge-requires-2
 judge-requires-2 c κs = search needs
 
 numeral-requires-3 : tie.Need-numeral-requires-3
 numeral-requires-3 c κs = search needs
+
+is-table-requires : tie.Need-is-table-requires
+is-table-requires c κs = search needs
 
 judge-requires-3 : tie.Need-judge-requires-3
 judge-requires-3 c κs = search needs
@@ -66,7 +78,10 @@ returns c =
     let c11 = c10 .before in
     let c12 = c11 .before in
     let c13 = c12 .before in
-    rw (c .first2 .ensures, c1 .first .ensures, c2 .judge3 .ensures, c3 .numeral3 .ensures, c4 .judge2 .ensures, c5 .numeral2 .ensures, c6 .judge .ensures, c7 .numeral .ensures, c8 .offset3 .ensures, c9 .ahead3 .ensures, c10 .offset2 .ensures, c11 .ahead2 .ensures, c12 .offset .ensures, c13 .ahead .ensures)
+    let c14 = c13 .before in
+    let c15 = c14 .before in
+    let c16 = c15 .before in
+    rw (c .first2 .ensures, c1 .first .ensures, c2 .judge3 .ensures, c3 .is-table .ensures, c4 .numeral3 .ensures, c5 .judge2 .ensures, c6 .is-walk .ensures, c7 .numeral2 .ensures, c8 .judge .ensures, c9 .is-steps .ensures, c10 .numeral .ensures, c11 .offset3 .ensures, c12 .ahead3 .ensures, c13 .offset2 .ensures, c14 .ahead2 .ensures, c15 .offset .ensures, c16 .ahead .ensures)
 
 pub bounds-spec : {M : Type 1} → statement M
 bounds-spec =
@@ -79,10 +94,13 @@ bounds-spec =
     ahead-requires-3
     offset-requires-3
     numeral-requires
+    is-steps-requires
     judge-requires
     numeral-requires-2
+    is-walk-requires
     judge-requires-2
     numeral-requires-3
+    is-table-requires
     judge-requires-3
     first-requires
     first-requires-2

@@ -4,7 +4,7 @@ use Rattle.job_checker.proofs.check_job.check_job.Statement.{statement}
 use Rattle.job_checker.proofs.check_job.check_job.Tie as tie
 use Rattle.job_checker.proofs.check_job.check_job.Reads as reads
 use Rattle.job_checker.proofs.check_job.check_job.Lts as lts
-use Rattle.checker.proofs.check.first.Reads as first-reads
+use Rattle.verdicts.proofs.found.first.Reads as first-reads
 use Rattle.job_checker.proofs.check_job.bounds.Reads as bounds-reads
 use Rattle.job_checker.proofs.check_job.elevens.Reads as elevens-reads
 use Rattle.job_checker.proofs.check_job.tens.Reads as tens-reads

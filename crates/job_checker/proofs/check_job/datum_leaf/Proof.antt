@@ -3,9 +3,9 @@ use Rattle.job_checker.proofs.check_job.datum_leaf.Statement.{statement
 use Rattle.job_checker.proofs.check_job.datum_leaf.Tie as tie
 use Rattle.job_checker.proofs.check_job.datum_leaf.Reads as reads
 use Rattle.job_checker.proofs.check_job.datum_leaf.Lts as lts
-use Rattle.checker.proofs.check.either.Reads as either-reads
-use Rattle.checker.proofs.check.judge.Reads as judge-reads
-use Rattle.checker.proofs.check.negated.Reads as negated-reads
+use Rattle.verdicts.proofs.truth.either.Reads as either-reads
+use Rattle.verdicts.proofs.found.judge.Reads as judge-reads
+use Rattle.verdicts.proofs.truth.negated.Reads as negated-reads
 use Rattle.checker.proofs.places.ahead.Reads as ahead-reads
 use Rattle.checker.proofs.places.kind.Reads as kind-reads
 use Rattle.checker.proofs.places.offset.Reads as offset-reads

@@ -4,10 +4,10 @@ use Rattle.job_checker.proofs.check_job.input.Statement.{statement}
 use Rattle.job_checker.proofs.check_job.input.Tie as tie
 use Rattle.job_checker.proofs.check_job.input.Reads as reads
 use Rattle.job_checker.proofs.check_job.input.Lts as lts
-use Rattle.checker.proofs.check.either.Reads as either-reads
-use Rattle.checker.proofs.check.first.Reads as first-reads
-use Rattle.checker.proofs.check.judge.Reads as judge-reads
-use Rattle.checker.proofs.check.negated.Reads as negated-reads
+use Rattle.verdicts.proofs.truth.either.Reads as either-reads
+use Rattle.verdicts.proofs.found.first.Reads as first-reads
+use Rattle.verdicts.proofs.found.judge.Reads as judge-reads
+use Rattle.verdicts.proofs.truth.negated.Reads as negated-reads
 use Rattle.job_checker.proofs.check_job.atomic.Reads as atomic-reads
 use Rattle.job_checker.proofs.check_job.datum.Reads as datum-reads
 use Rattle.checker.proofs.places.kind.Reads as kind-reads

@@ -1,6 +1,6 @@
 use mathlib.Core.Path.{_≡_}
 use mathlib.Core.Bool.{true}
-use Rattle.checker.specs.declared.check.Verdict.the-variants.{Fine}
+use Rattle.verdicts.specs.declared.found.Verdict.the-variants.{Fine}
 use borrow.Author.Tests.{eq-eqb, ne-eqb}
 use Rattle.job_checker.specs.twins.JobStored.{inputsAt}
 use Rattle.job_checker.proofs.JobOpenings.{inputs-more, inputs-none}
@@ -10,9 +10,9 @@ use Rattle.job_checker.proofs.check_job.inputs.Statement.{statement}
 use Rattle.job_checker.proofs.check_job.inputs.Tie as tie
 use Rattle.job_checker.proofs.check_job.inputs.Reads as reads
 use Rattle.job_checker.proofs.check_job.inputs.Lts as lts
-use Rattle.checker.proofs.check.both.Reads as both-reads
-use Rattle.checker.proofs.check.first.Reads as first-reads
-use Rattle.checker.proofs.check.negated.Reads as negated-reads
+use Rattle.verdicts.proofs.truth.both.Reads as both-reads
+use Rattle.verdicts.proofs.found.first.Reads as first-reads
+use Rattle.verdicts.proofs.truth.negated.Reads as negated-reads
 use Rattle.checker.proofs.places.ahead.Reads as ahead-reads
 use Rattle.checker.proofs.places.key.Reads as key-reads
 use Rattle.job_checker.proofs.check_job.input.Reads as input-reads

@@ -3,8 +3,7 @@ use Rattle.job_checker.proofs.check_job.side.Statement.{statement}
 use Rattle.job_checker.proofs.check_job.side.Tie as tie
 use Rattle.job_checker.proofs.check_job.side.Reads as reads
 use Rattle.job_checker.proofs.check_job.side.Lts as lts
-use Rattle.checker.proofs.check.both.Reads as both-reads
-use Rattle.checker.proofs.check.either.Reads as either-reads
+use Rattle.verdicts.proofs.names.is_side.Reads as is-side-reads
 use Rattle.checker.proofs.places.kind.Reads as kind-reads
 use Rattle.checker.proofs.places.num.Reads as num-reads
 use Rattle.cells.proofs.cell.cell.Reads as cell-reads
@@ -25,11 +24,8 @@ atomic-requires c κs = search needs
 kind-requires : tie.Need-kind-requires
 kind-requires c κs = search needs
 
-either-requires : tie.Need-either-requires
-either-requires c κs = search needs
-
-both-requires : tie.Need-both-requires
-both-requires c κs = search needs
+is-side-requires : tie.Need-is-side-requires
+is-side-requires c κs = search needs
 
 returns : tie.Need-returns
 returns c =
@@ -37,8 +33,7 @@ returns c =
     let c2 = c1 .before in
     let c3 = c2 .before in
     let c4 = c3 .before in
-    let c5 = c4 .before in
-    rw (c .both .ensures, c1 .either .ensures, c2 .kind .ensures, c3 .atomic .ensures, c4 .cell .ensures, c5 .num .ensures)
+    rw (c .is-side .ensures, c1 .kind .ensures, c2 .atomic .ensures, c3 .cell .ensures, c4 .num .ensures)
 
 pub side-spec : {M : Type 1} → statement M
 side-spec =
@@ -49,6 +44,5 @@ side-spec =
     cell-requires
     atomic-requires
     kind-requires
-    either-requires
-    both-requires
+    is-side-requires
     returns)

@@ -8,7 +8,7 @@ use Rattle.job_checker.proofs.check_job.sides.Statement.{statement}
 use Rattle.job_checker.proofs.check_job.sides.Tie as tie
 use Rattle.job_checker.proofs.check_job.sides.Reads as reads
 use Rattle.job_checker.proofs.check_job.sides.Lts as lts
-use Rattle.checker.proofs.check.first.Reads as first-reads
+use Rattle.verdicts.proofs.found.first.Reads as first-reads
 use Rattle.checker.proofs.places.ahead.Reads as ahead-reads
 use Rattle.checker.proofs.places.key.Reads as key-reads
 use Rattle.job_checker.proofs.check_job.two_sides.Reads as two-sides-reads

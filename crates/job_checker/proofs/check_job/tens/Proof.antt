@@ -4,8 +4,8 @@ use Rattle.job_checker.proofs.check_job.tens.Statement.{statement}
 use Rattle.job_checker.proofs.check_job.tens.Tie as tie
 use Rattle.job_checker.proofs.check_job.tens.Reads as reads
 use Rattle.job_checker.proofs.check_job.tens.Lts as lts
-use Rattle.checker.proofs.check.first.Reads as first-reads
-use Rattle.checker.proofs.check.judge.Reads as judge-reads
+use Rattle.verdicts.proofs.found.first.Reads as first-reads
+use Rattle.verdicts.proofs.found.judge.Reads as judge-reads
 use Rattle.job_checker.proofs.check_job.inputs.Reads as inputs-reads
 use Rattle.checker.proofs.places.offset.Reads as offset-reads
 

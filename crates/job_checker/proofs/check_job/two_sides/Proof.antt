@@ -4,8 +4,8 @@ use Rattle.job_checker.proofs.check_job.two_sides.Statement.{statement}
 use Rattle.job_checker.proofs.check_job.two_sides.Tie as tie
 use Rattle.job_checker.proofs.check_job.two_sides.Reads as reads
 use Rattle.job_checker.proofs.check_job.two_sides.Lts as lts
-use Rattle.checker.proofs.check.first.Reads as first-reads
-use Rattle.checker.proofs.check.judge.Reads as judge-reads
+use Rattle.verdicts.proofs.found.first.Reads as first-reads
+use Rattle.verdicts.proofs.found.judge.Reads as judge-reads
 use Rattle.job_checker.proofs.check_job.datum.Reads as datum-reads
 use Rattle.job_checker.proofs.check_job.side.Reads as side-reads
 use Rattle.checker.proofs.places.ahead.Reads as ahead-reads

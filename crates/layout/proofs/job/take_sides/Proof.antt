@@ -6,7 +6,7 @@ use Rattle.layout.proofs.job.take_sides.Reads as reads
 use Rattle.layout.proofs.job.take_sides.Lts as lts
 use Rattle.sets.proofs.tree.copy.Reads as copy-reads
 use Rattle.cells.proofs.cell.least.Reads as least-reads
-use Rattle.sets.proofs.restriction.simplify.Reads as simplify-reads
+use Rattle.restrictions.proofs.restriction.simplify.Reads as simplify-reads
 
 least-requires : tie.Need-least-requires
 least-requires c κs = search needs

@@ -2,8 +2,8 @@ use borrow.Author.Needs.{needs}
 use Rattle.linking.proofs.program.program_end.Statement.{statement}
 use Rattle.linking.proofs.program.program_end.Tie as tie
 
-less-requires : tie.Need-less-requires
-less-requires c κs = search needs
+last-of-requires : tie.Need-last-of-requires
+last-of-requires c κs = search needs
 
 cell-requires : tie.Need-cell-requires
 cell-requires c κs = search needs
@@ -11,8 +11,8 @@ cell-requires c κs = search needs
 wide-requires : tie.Need-wide-requires
 wide-requires c κs = search needs
 
-less-requires-2 : tie.Need-less-requires-2
-less-requires-2 c κs = search needs
+bracket-of-requires : tie.Need-bracket-of-requires
+bracket-of-requires c κs = search needs
 
 cell-requires-2 : tie.Need-cell-requires-2
 cell-requires-2 c κs = search needs
@@ -26,16 +26,16 @@ returns c =
     let m = k .before in
     let w = m .before in
     let h = w .before in
-    rw (← (h .before .less .ensures), ← (h .cell .ensures), ← (w .wide .ensures .0), ← (m .less2 .ensures), ← (k .cell2 .ensures)) (c .wide2 .ensures .0)
+    rw (← (h .before .last-of .ensures), ← (h .cell .ensures), ← (w .wide .ensures .0), ← (m .bracket-of .ensures), ← (k .cell2 .ensures)) (c .wide2 .ensures .0)
 
 pub program-end-spec : {M : Type 1} → statement M
 program-end-spec =
     tie.close
     (tie.spec
-    less-requires
+    last-of-requires
     cell-requires
     wide-requires
-    less-requires-2
+    bracket-of-requires
     cell-requires-2
     wide-requires-2
     returns)

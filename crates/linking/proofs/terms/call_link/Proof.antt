@@ -7,6 +7,7 @@ use Rattle.linking.proofs.terms.call_link.Lts as lts
 use Rattle.linking.proofs.terms.closing.Reads as closing-reads
 use Rattle.linking.proofs.terms.head_of.Reads as head-of-reads
 use Rattle.cells.proofs.cell.low.Reads as low-reads
+use Rattle.links.proofs.link.body_behind.Reads as body-behind-reads
 use Rattle.linking.proofs.tokens.on.Reads as on-reads
 use Rattle.cells.proofs.cell.cell.Reads as cell-reads
 use Rattle.cells.proofs.cell.least.Reads as least-reads
@@ -35,18 +36,15 @@ sub-low c = search needs
 low-requires : tie.Need-low-requires
 low-requires c κs = search needs
 
-on-requires-3 : tie.Need-on-requires-3
-on-requires-3 c κs = search needs
-
-low-requires-2 : tie.Need-low-requires-2
-low-requires-2 c κs = search needs
+body-behind-requires : tie.Need-body-behind-requires
+body-behind-requires c κs = search needs
 
 cell-requires-2 : tie.Need-cell-requires-2
 cell-requires-2 c κs = search needs
 
 returns : tie.Need-returns
 unfolding callLink
-returns c = rw (← (c .before .before .before .before .before .before .before .before .before .on .ensures), ← (c .before .before .before .before .before .before .before .before .cell .ensures), ← (c .before .before .before .before .before .before .before .head-of .ensures), ← (c .before .before .before .before .before .before .on2 .ensures), ← (c .before .before .before .before .before .closing .ensures), ← (c .before .before .before .before .least .ensures), ← (c .before .before .before .low .ensures), ← (c .before .before .on3 .ensures), ← (c .before .low2 .ensures), ← (c .cell2 .ensures))
+returns c = rw (← (c .before .before .before .before .before .before .before .before .on .ensures), ← (c .before .before .before .before .before .before .before .cell .ensures), ← (c .before .before .before .before .before .before .head-of .ensures), ← (c .before .before .before .before .before .on2 .ensures), ← (c .before .before .before .before .closing .ensures), ← (c .before .before .before .least .ensures), ← (c .before .before .low .ensures), ← (c .before .body-behind .ensures), ← (c .cell2 .ensures))
 
 pub call-link-spec : {M : Type 1} → statement M
 call-link-spec =
@@ -60,7 +58,6 @@ call-link-spec =
     least-requires
     sub-low
     low-requires
-    on-requires-3
-    low-requires-2
+    body-behind-requires
     cell-requires-2
     returns)

@@ -3,7 +3,7 @@ use Rattle.pages.proofs.Shown.{not-whole, less-on}
 use Prim.Native.Nat.{_≤_, _-_, _*_, min}
 use mathlib.Core.Path.{_≡_}
 use lib.ListN.{length}
-use Rattle.print.specs.twins.ListedText.{listedText}
+use Rattle.print.specs.twins.ListedText.{listedWith}
 use borrow.Author.Needs.{needs}
 use Rattle.pages.proofs.output.write_list.Statement.{statement}
 use Rattle.pages.proofs.output.write_list.Tie as tie
@@ -13,12 +13,12 @@ use Rattle.pages.proofs.output.write_page.Reads as write-page-reads
 use Rattle.pages.proofs.page.list_page.Reads as list-page-reads
 
 abbrev Inv-loop : tie.InvT-loop
-Inv-loop program job answer cells first page₀ n₀ bytes₀ k₀ page n bytes k =
-    let text = listedText program job cells answer in
-    (k ≤ 64) × (bytes ≡ k * 65536) × (n ≡ min 65536 (length text - k * 65536)) × (k * 65536 ≤ length text)
+Inv-loop samples program job answer cells first page₀ n₀ bytes₀ k₀ page n bytes k =
+    let text = listedWith samples program job cells answer in
+    (k ≤ 128) × (bytes ≡ k * 65536) × (n ≡ min 65536 (length text - k * 65536)) × (k * 65536 ≤ length text)
 
 abbrev μ-loop : tie.MeasureT-loop
-μ-loop program job answer cells first page₀ n₀ bytes₀ k₀ page n bytes k = 64 - k
+μ-loop samples program job answer cells first page₀ n₀ bytes₀ k₀ page n bytes k = 128 - k
 
 loop-holds : tie.Need-loop-holds Inv-loop μ-loop
 loop-holds c = search needs

@@ -89,7 +89,7 @@ returns c =
     let a = c .before .before .before .before .before .before .before .before .before .before .before .before .before .before .before .before .before .before .before .before .before .before .before .before .before .before .before .before .before .before .before .before .before .before .before .before .before .before .before .before .before .before .before .before .before .args in
     let e = c .before .before .before .before .before .before .before .before .before .before .before .before .before .before .before .before .before .before .before .before .before .before .before .before .before .before .before .before .before .before .before .read-both .ensures in (
       list-left (a .program .now) (a .job .now) (a .work .now) (a .answer .now) e (c .before .before .before .before .before .before .before .before .before .list-read .ensures),
-      said-read (bothOver false (a .program .now) (a .job .now) (a .work .now)) (e .0) (e .5) (e .6) (e .7) (c .before .before .before .before .before .before .before .before .before .before .before .before .before .before .before .before .before .before .job-terms .ensures) (c .before .before .print-said .ensures),
+      said-read (a .samples) (bothOver false (a .program .now) (a .job .now) (a .work .now)) (e .0) (e .5) (e .6) (e .7) (c .before .before .before .before .before .before .before .before .before .before .before .before .before .before .before .before .before .before .job-terms .ensures) (c .before .before .print-said .ensures),
     )
 
 pub first-texts-spec : {M : Type 1} → statement M

@@ -1,22 +1,18 @@
-use Prim.Native.Nat.{ℕ}
-use mathlib.Core.Path.{ap, ap₂, _∙_}
+use Prim.Native.Nat.{ℕ, _*_}
+use mathlib.Core.Path.{ap}
 use mathlib.Core.List.{List}
-use Rattle.window.specs.twins.Sink.{puts}
-use Rattle.window.specs.twins.TreeText.{symbolText}
-use Rattle.writer.specs.twins.LineText.{linesText}
-use Rattle.print.specs.twins.ListingText.{listingText}
-use Rattle.window.proofs.SinkLaws.{behind, printed}
+use lib.ListN.{take}
+use Rattle.print.specs.twins.ListedText.{termsLeft, tableListing}
+use Rattle.print.proofs.ListTurns.{same-text, names-made, names-kept}
 use borrow.Author.Needs.{needs}
 use Rattle.print.proofs.list.print_listing.Statement.{statement}
 use Rattle.print.proofs.list.print_listing.Tie as tie
 use Rattle.print.proofs.list.print_listing.Reads as reads
 use Rattle.print.proofs.list.print_listing.Lts as lts
-use Rattle.print.proofs.list.put_first.Reads as put-first-reads
-use Rattle.writer.proofs.line.put_lines.Reads as put-lines-reads
+use Rattle.print.proofs.list.print_by_all_names.Reads as print-by-all-names-reads
+use Rattle.print.proofs.list.print_by_names.Reads as print-by-names-reads
+use Rattle.samples.proofs.names.name_table.Reads as name-table-reads
 use Rattle.window.proofs.parts.front.Reads as front-reads
-use Rattle.window.proofs.sink.clear.Reads as clear-reads
-use Rattle.window.proofs.sink.opened.Reads as opened-reads
-use Rattle.window.proofs.sink.written.Reads as written-reads
 
 cast-front : tie.Need-cast-front
 cast-front c = search needs
@@ -27,33 +23,34 @@ mul-front c = search needs
 front-requires : tie.Need-front-requires
 front-requires c κs = search needs
 
-clear-requires : tie.Need-clear-requires
-clear-requires c κs = search needs
+name-table-requires : tie.Need-name-table-requires
+name-table-requires c κs = search needs
 
-opened-requires : tie.Need-opened-requires
-opened-requires c κs = search needs
-
-put-first-requires : tie.Need-put-first-requires
-put-first-requires c κs = search needs
-
-front-requires-2 : tie.Need-front-requires-2
-front-requires-2 c κs = search needs
-
-put-lines-requires : tie.Need-put-lines-requires
-put-lines-requires c κs = search needs
-
-written-requires : tie.Need-written-requires
-written-requires c κs = search needs
+print-by-all-names-requires : tie.Need-print-by-all-names-requires
+print-by-all-names-requires c κs = search needs
 
 same-length : tie.Need-same-length
 same-length c = search needs
 
 returns : tie.Need-returns
-unfolding listingText
 returns c =
-    let a = c .before .before .before .before .before .before .before .before .before .before .before .before .before .before .before .before .before .before .before .before .before .before .before .args in
-    let text = ap₂ (λ (t v : List ℕ). linesText (symbolText (a .program .now) (a .job .now) t) v (a .first .lines) 0 (a .answer .now)) (c .before .before .before .before .before .before .before .before .before .before .before .before .before .before .before .front .ensures) (c .before .before .before .before .before .front2 .ensures) in
-    printed _ _ _ _ _ _ _ _ (c .before .before .before .before .before .before .before .before .before .before .opened .ensures) (c .before .before .before .before .before .before .before .before .before .before .before .before .before .clear .ensures) (behind _ _ _ (c .before .before .before .before .before .before .before .before .put-first .ensures) ((c .before .before .before .put-lines .ensures) ∙ ap (puts _) text)) (c .written .ensures)
+    let a = c .before .before .before .before .before .before .before .before .before .before .before .before .before .before .before .before .args in
+    let cut = take (2 * a .sizes .symbols) (a .symbols .now) in
+    let t = termsLeft (a .sizes) (a .terms .now) in
+    same-text _ _ (ap (λ (x : List ℕ). tableListing (a .program .now) (a .job .now) x t (a .answer .now) (a .first .word) (a .first .lines) (a .first .count)) (names-made (a .program .now) (a .job .now) cut _ (a .sizes .samples) (c .before .before .before .before .before .before .before .before .front .ensures) _ (c .before .before .before .before .before .before .before .if1 .taken) (c .before .before .before .before .before .name-table .ensures))) (c .before .before .print-by-all-names .ensures)
+
+print-by-names-requires : tie.Need-print-by-names-requires
+print-by-names-requires c κs = search needs
+
+same-length-2 : tie.Need-same-length-2
+same-length-2 c = search needs
+
+returns-2 : tie.Need-returns-2
+returns-2 c =
+    let a = c .before .before .before .before .before .before .before .before .before .before .before .before .before .args in
+    let cut = take (2 * a .sizes .symbols) (a .symbols .now) in
+    let t = termsLeft (a .sizes) (a .terms .now) in
+    same-text _ _ (ap (λ (x : List ℕ). tableListing (a .program .now) (a .job .now) x t (a .answer .now) (a .first .word) (a .first .lines) (a .first .count)) (names-kept (a .program .now) (a .job .now) cut _ (a .sizes .samples) (c .before .before .before .before .before .front .ensures) (c .before .before .before .before .if1 .left))) (c .before .before .print-by-names .ensures)
 
 pub print-listing-spec : {M : Type 1} → statement M
 print-listing-spec =
@@ -62,11 +59,10 @@ print-listing-spec =
     cast-front
     mul-front
     front-requires
-    clear-requires
-    opened-requires
-    put-first-requires
-    front-requires-2
-    put-lines-requires
-    written-requires
+    name-table-requires
+    print-by-all-names-requires
     same-length
-    returns)
+    returns
+    print-by-names-requires
+    same-length-2
+    returns-2)

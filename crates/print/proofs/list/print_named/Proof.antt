@@ -60,7 +60,7 @@ same-length : tie.Need-same-length
 same-length c = search needs
 
 returns : tie.Need-returns
-returns c = let e = c .before .before .before .before .before .before .before .before .before .before .before .before .before .before .before .before .before .before .before .read-both .ensures in same-text _ _ (named-read _ _ _ _ _ _ (e .0) (e .5) (e .6) (e .7) (c .before .before .before .before .before .before .before .job-terms .ensures)) (c .before .before .print-listing .ensures)
+returns c = let e = c .before .before .before .before .before .before .before .before .before .before .before .before .before .before .before .before .before .before .before .read-both .ensures in same-text _ _ (named-read _ _ _ _ _ _ _ (e .0) (e .5) (e .6) (e .7) (c .before .before .before .before .before .before .before .job-terms .ensures)) (c .before .before .print-listing .ensures)
 
 pub print-named-spec : {M : Type 1} → statement M
 print-named-spec =

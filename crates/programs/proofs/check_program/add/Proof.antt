@@ -4,7 +4,7 @@ use Rattle.programs.proofs.check_program.add.Statement.{statement}
 use Rattle.programs.proofs.check_program.add.Tie as tie
 use Rattle.programs.proofs.check_program.add.Reads as reads
 use Rattle.programs.proofs.check_program.add.Lts as lts
-use Rattle.checker.proofs.check.first.Reads as first-reads
+use Rattle.verdicts.proofs.found.first.Reads as first-reads
 
 mul-heads : tie.Need-mul-heads
 mul-heads c = search needs

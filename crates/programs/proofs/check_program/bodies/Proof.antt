@@ -1,6 +1,6 @@
 use mathlib.Core.Path.{_≡_}
 use Prim.Native.Nat.{_-_}
-use Rattle.checker.specs.declared.check.Verdict.the-variants.{Fine}
+use Rattle.verdicts.specs.declared.found.Verdict.the-variants.{Fine}
 use Rattle.checker.specs.twins.CheckStored.{bodiesAt}
 use Rattle.checker.proofs.CheckOpenings.{whole-count, bodies-more, bodies-none}
 use borrow.Author.Needs.{needs}
@@ -8,7 +8,7 @@ use Rattle.programs.proofs.check_program.bodies.Statement.{statement}
 use Rattle.programs.proofs.check_program.bodies.Tie as tie
 use Rattle.programs.proofs.check_program.bodies.Reads as reads
 use Rattle.programs.proofs.check_program.bodies.Lts as lts
-use Rattle.checker.proofs.check.first.Reads as first-reads
+use Rattle.verdicts.proofs.found.first.Reads as first-reads
 use Rattle.checker.proofs.check.index.Reads as index-reads
 use Rattle.programs.proofs.check_program.body.Reads as body-reads
 

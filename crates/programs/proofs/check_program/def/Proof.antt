@@ -3,7 +3,7 @@ use Rattle.programs.proofs.check_program.def.Statement.{statement}
 use Rattle.programs.proofs.check_program.def.Tie as tie
 use Rattle.programs.proofs.check_program.def.Reads as reads
 use Rattle.programs.proofs.check_program.def.Lts as lts
-use Rattle.checker.proofs.check.first.Reads as first-reads
+use Rattle.verdicts.proofs.found.first.Reads as first-reads
 use Rattle.programs.proofs.check_program.add.Reads as add-reads
 use Rattle.programs.proofs.check_program.head_twice.Reads as head-twice-reads
 use Rattle.programs.proofs.check_program.params_twice.Reads as params-twice-reads

@@ -16,8 +16,8 @@ use Rattle.programs.proofs.check_terms.+consp+eqa+term.Lts-eqa as eqa-l
 use Rattle.programs.proofs.check_terms.term.Reads as term
 use Rattle.programs.proofs.check_terms.term.Kinds as term-kinds
 use Rattle.programs.proofs.check_terms.+consp+eqa+term.Lts-term as term-lts
-use Rattle.checker.proofs.check.branched.Reads as branched-reads
-use Rattle.checker.proofs.check.first.Reads as first-reads
+use Rattle.verdicts.proofs.found.branched.Reads as branched-reads
+use Rattle.verdicts.proofs.found.first.Reads as first-reads
 use Rattle.checker.proofs.check_expressions.binding.Reads as binding-reads
 use Rattle.checker.proofs.check_expressions.ea.Reads as ea-reads
 use Rattle.checker.proofs.check_expressions.exp.Reads as exp-reads

@@ -3,10 +3,10 @@ use Rattle.programs.proofs.check_terms.call.Statement.{statement}
 use Rattle.programs.proofs.check_terms.call.Tie as tie
 use Rattle.programs.proofs.check_terms.call.Reads as reads
 use Rattle.programs.proofs.check_terms.call.Lts as lts
-use Rattle.checker.proofs.check.both.Reads as both-reads
-use Rattle.checker.proofs.check.called.Reads as called-reads
+use Rattle.verdicts.proofs.truth.both.Reads as both-reads
+use Rattle.verdicts.proofs.found.called.Reads as called-reads
 use Rattle.checker.proofs.check.index.Reads as index-reads
-use Rattle.checker.proofs.check.judge.Reads as judge-reads
+use Rattle.verdicts.proofs.found.judge.Reads as judge-reads
 use Rattle.checker.proofs.check_expressions.args.Reads as args-reads
 use Rattle.programs.proofs.check_terms.find.Reads as find-reads
 use Rattle.checker.proofs.places.ahead.Reads as ahead-reads

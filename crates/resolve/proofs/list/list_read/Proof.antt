@@ -6,6 +6,7 @@ use Rattle.resolve.proofs.list.list_read.Statement.{statement}
 use Rattle.resolve.proofs.list.list_read.Tie as tie
 use Rattle.resolve.proofs.list.list_read.Reads as reads
 use Rattle.resolve.proofs.list.list_read.Lts as lts
+use Rattle.answers.proofs.list.of_program.Reads as of-program-reads
 use Rattle.initial.proofs.begin.main_body.Reads as main-body-reads
 use Rattle.lent.proofs.clear.clear.Reads as clear-reads
 use Rattle.linking.proofs.program.link_program.Reads as link-program-reads
@@ -14,6 +15,9 @@ use Rattle.walk.proofs.job.walk_job.Reads as walk-job-reads
 
 enum-known-both : tie.Need-enum-known-both
 enum-known-both c = search needs
+
+of-program-requires : tie.Need-of-program-requires
+of-program-requires c κs = search needs
 
 enum-known-both-2 : tie.Need-enum-known-both-2
 enum-known-both-2 c = search needs
@@ -44,7 +48,7 @@ came-to-requires c κs = search needs
 
 returns : tie.Need-returns
 unfolding listedRead
-returns c = rw (c .before .both .given .1) refl
+returns c = rw (c .before .before .both .given .1, c .of-program .ensures) refl
 
 returns-2 : tie.Need-returns-2
 unfolding listedRead
@@ -74,6 +78,7 @@ list-read-spec =
     tie.close
     (tie.spec
     enum-known-both
+    of-program-requires
     enum-known-both-2
     enum-told
     enum-known-both-3

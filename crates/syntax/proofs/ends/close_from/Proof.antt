@@ -2,6 +2,7 @@
 use mathlib.Core.Path.{_≡_, refl, sym, _∙_}
 use Prim.Native.Nat.{_-_, _≤_}
 use native.Mathlib.Omega.{arith}
+use borrow.Author.Tests.{leb-true, leb-false}
 use Rattle.checker.specs.twins.StoredAt.{keyAt}
 use Rattle.syntax.specs.twins.Ends.{closeFrom}
 use Rattle.syntax.proofs.PartOpenings.{close-end, close-deeper, close-word, close-last, close-higher}
@@ -10,6 +11,7 @@ use Rattle.syntax.proofs.ends.close_from.Statement.{statement}
 use Rattle.syntax.proofs.ends.close_from.Tie as tie
 use Rattle.syntax.proofs.ends.close_from.Reads as reads
 use Rattle.syntax.proofs.ends.close_from.Lts as lts
+use Rattle.brackets.proofs.depth.is_outermost.Reads as is-outermost-reads
 use Rattle.syntax.proofs.ends.is_close.Reads as is-close-reads
 use Rattle.syntax.proofs.ends.is_open.Reads as is-open-reads
 
@@ -40,14 +42,17 @@ loop-again c = (c .before .before .before .loop .inv .0 ∙ close-deeper (keyAt 
 is-close-requires : tie.Need-is-close-requires Inv-loop μ-loop
 is-close-requires c κs = search needs
 
+is-outermost-requires : tie.Need-is-outermost-requires Inv-loop μ-loop
+is-outermost-requires c κs = search needs
+
 add-result : tie.Need-add-result Inv-loop μ-loop
 add-result c = search needs
 
 returns : tie.Need-returns Inv-loop μ-loop
-returns c = sym (c .before .before .before .before .before .before .loop .inv .0 ∙ close-last (keyAt (c .before .before .before .before .before .before .before .before .args .marks .now) (c .before .before .before .before .before .before .before .before .args .n)) (c .before .before .before .before .before .before .before .before .args .n) (c .before .before .before .before .before .before .loop .depth) (c .before .before .before .before .before .before .loop .i) (c .before .before .before .before .before .loop-test .taken) (sym (c .before .before .before .before .is-open .ensures) ∙ c .before .before .before .if1 .left) (sym (c .before .before .is-close .ensures) ∙ c .before .if2 .taken) (c .if3 .taken))
+returns c = sym (c .before .before .before .before .before .before .before .loop .inv .0 ∙ close-last (keyAt (c .before .before .before .before .before .before .before .before .before .args .marks .now) (c .before .before .before .before .before .before .before .before .before .args .n)) (c .before .before .before .before .before .before .before .before .before .args .n) (c .before .before .before .before .before .before .before .loop .depth) (c .before .before .before .before .before .before .before .loop .i) (c .before .before .before .before .before .before .loop-test .taken) (sym (c .before .before .before .before .before .is-open .ensures) ∙ c .before .before .before .before .if1 .left) (sym (c .before .before .before .is-close .ensures) ∙ c .before .before .if2 .taken) (leb-true _ _ (sym (c .before .is-outermost .ensures) ∙ c .if3 .taken)))
 
 sub-depth : tie.Need-sub-depth Inv-loop μ-loop
-sub-depth c = search needs
+sub-depth c = omega (arith, leb-false (c .before .before .before .before .before .before .before .loop .depth) 1 (sym (c .before .is-outermost .ensures) ∙ c .if3 .left))
 
 add-i-2 : tie.Need-add-i-2 Inv-loop μ-loop
 add-i-2 c = search needs
@@ -56,7 +61,7 @@ loop-less-2 : tie.Need-loop-less-2 Inv-loop μ-loop
 loop-less-2 c = search needs
 
 loop-again-2 : tie.Need-loop-again-2 Inv-loop μ-loop
-loop-again-2 c = (c .before .before .before .before .before .before .loop .inv .0 ∙ close-higher (keyAt (c .before .before .before .before .before .before .before .before .args .marks .now) (c .before .before .before .before .before .before .before .before .args .n)) (c .before .before .before .before .before .before .before .before .args .n) (c .before .before .before .before .before .before .loop .depth) (c .before .before .before .before .before .before .loop .i) (c .before .before .before .before .before .loop-test .taken) (sym (c .before .before .before .before .is-open .ensures) ∙ c .before .before .before .if1 .left) (sym (c .before .before .is-close .ensures) ∙ c .before .if2 .taken) (c .if3 .left), omega (arith, c .before .before .before .before .before .before .loop .inv .1))
+loop-again-2 c = (c .before .before .before .before .before .before .before .loop .inv .0 ∙ close-higher (keyAt (c .before .before .before .before .before .before .before .before .before .args .marks .now) (c .before .before .before .before .before .before .before .before .before .args .n)) (c .before .before .before .before .before .before .before .before .before .args .n) (c .before .before .before .before .before .before .before .loop .depth) (c .before .before .before .before .before .before .before .loop .i) (c .before .before .before .before .before .before .loop-test .taken) (sym (c .before .before .before .before .before .is-open .ensures) ∙ c .before .before .before .before .if1 .left) (sym (c .before .before .before .is-close .ensures) ∙ c .before .before .if2 .taken) (leb-false _ _ (sym (c .before .is-outermost .ensures) ∙ c .if3 .left)), omega (arith, c .before .before .before .before .before .before .before .loop .inv .1))
 
 add-i-3 : tie.Need-add-i-3 Inv-loop μ-loop
 add-i-3 c = search needs
@@ -83,6 +88,7 @@ close-from-spec =
     loop-less
     loop-again
     is-close-requires
+    is-outermost-requires
     add-result
     returns
     sub-depth

@@ -3,7 +3,7 @@ use Rattle.syntax.proofs.ends.is_close.Statement.{statement}
 use Rattle.syntax.proofs.ends.is_close.Tie as tie
 use Rattle.syntax.proofs.ends.is_close.Reads as reads
 use Rattle.syntax.proofs.ends.is_close.Lts as lts
-use Rattle.checker.proofs.check.either.Reads as either-reads
+use Rattle.verdicts.proofs.truth.either.Reads as either-reads
 use Rattle.checker.proofs.places.key.Reads as key-reads
 
 key-requires : tie.Need-key-requires

@@ -3,7 +3,7 @@ use Rattle.syntax.proofs.ends.is_open.Statement.{statement}
 use Rattle.syntax.proofs.ends.is_open.Tie as tie
 use Rattle.syntax.proofs.ends.is_open.Reads as reads
 use Rattle.syntax.proofs.ends.is_open.Lts as lts
-use Rattle.checker.proofs.check.either.Reads as either-reads
+use Rattle.verdicts.proofs.truth.either.Reads as either-reads
 use Rattle.checker.proofs.places.key.Reads as key-reads
 
 key-requires : tie.Need-key-requires

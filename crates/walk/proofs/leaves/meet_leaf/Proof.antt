@@ -9,6 +9,9 @@ link-at-requires c κs = search needs
 is-result-requires : tie.Need-is-result-requires
 is-result-requires c κs = search needs
 
+lines-kept-requires : tie.Need-lines-kept-requires
+lines-kept-requires c κs = search needs
+
 meet-end-requires : tie.Need-meet-end-requires
 meet-end-requires c κs = search needs
 
@@ -20,7 +23,7 @@ same-length c = c .before .before .answer .given
 
 returns : tie.Need-returns
 unfolding leafMet
-returns c = rw (← (c .before .before .before .before .before .before .before .before .before .before .link-at .ensures), ← (c .before .before .before .before .before .before .before .before .before .is-result .ensures), c .before .before .before .before .before .before .before .before .if1 .taken, ← (c .before .before .before .meet-end .ensures), ← (c .after-end .ensures))
+returns c = rw (← (c .before .before .before .before .before .before .before .before .before .before .before .link-at .ensures), ← (c .before .before .before .before .before .before .before .before .before .before .is-result .ensures), c .before .before .before .before .before .before .before .before .before .if1 .taken, ← (c .before .before .before .before .before .before .before .before .lines-kept .ensures), ← (c .before .before .before .meet-end .ensures), ← (c .after-end .ensures))
 
 cut-requires : tie.Need-cut-requires
 cut-requires c κs = search needs
@@ -35,6 +38,7 @@ meet-leaf-spec =
     (tie.spec
     link-at-requires
     is-result-requires
+    lines-kept-requires
     meet-end-requires
     after-end-requires
     same-length

@@ -6,7 +6,7 @@ use Rattle.writer.proofs.line.put_line.Tie as tie
 use Rattle.writer.proofs.line.put_line.Reads as reads
 use Rattle.writer.proofs.line.put_line.Lts as lts
 use Rattle.writer.proofs.binding.put_bindings.Reads as put-bindings-reads
-use Rattle.writer.proofs.line.class_end.Reads as class-end-reads
+use Rattle.writer.proofs.sample.class_end.Reads as class-end-reads
 use Rattle.writer.proofs.line.line_end.Reads as line-end-reads
 use Rattle.writer.proofs.line.put_numbers.Reads as put-numbers-reads
 use Rattle.writer.proofs.line.put_restriction.Reads as put-restriction-reads

@@ -1,0 +1,2 @@
+pub mod RestrictionLaws
+pub mod RestrictionTurns

@@ -1,0 +1,2 @@
+pub mod twins
+pub mod SampleDemand
