@@ -5,7 +5,7 @@ use mathlib.Core.Bool.{Bool, true, false, cond, false≢true}
 use mathlib.Core.List.{List, [], ◌∷◌}
 use native.Mathlib.Omega.{arith}
 use lib.Dec.{ltb}
-use lib.ListN.{length, get_or, length_append}
+use lib.ListN.{length, get_or, length-append}
 use borrow.Author.Tests.{lt-leb, ltb-true}
 use Rattle.expressions.specs.Expression.{AtomicExp, sym, avar, Exp, atm}
 use Rattle.expressions.specs.Substitution.{Substitution, apply_atomic}
@@ -124,7 +124,7 @@ module _ (p : Prog) (bodies : ℕ → ℕ) (code : List ℕ) where
           rw z at (held_tail (held_second K.cr.con.io.ins (K.cr.con.io.out ∷ holds.values) holds.held))
 
       few : base + length holds.values ≤ 4120
-      few = omega (arith, few_entries holds small, holds.entries, length_append K.cr.con.io.ins (K.cr.con.io.out ∷ holds.values))
+      few = omega (arith, few_entries holds small, holds.entries, length-append K.cr.con.io.ins (K.cr.con.io.out ∷ holds.values))
 
       here : WellScoped p (conditional (eqa a b) t u) (env_of S.names holds.values)
       here = subst (λ (s : Term). WellScoped p s (env_of S.names holds.values)) is (subst (λ (e : ExpEnv). WellScoped p K.term e) holds.env scoped)

@@ -5,7 +5,7 @@ use mathlib.Core.Bool.{Bool, true, false, cond, ◌&&◌, ◌||◌, true≢false
 use mathlib.Core.List.{[], ◌∷◌, map}
 use mathlib.Core.Option.{Option, none, some}
 use lib.Dec.{eqb}
-use borrow.Author.Tests.{eqb-true, eqb_false}
+use borrow.Author.Tests.{eqb-true, eqb-false}
 use Rattle.expressions.specs.Expression.{AtomicExp, sym, avar}
 use Rattle.expressions.specs.Substitution.{GroundSubst, ground_atomic, apply_atomic, compose_ground, subst_a}
 use Rattle.expressions.specs.Restriction.{NonEquality, Restriction, Satisfies, same_atomic, same_non_equality, stands, simplify, apply_non_equality, subst_restriction}
@@ -50,7 +50,7 @@ module _ (m : ℕ) (z : AtomicExp) where
     where
       pick : (b : Bool) → eqb n m ≡ b → (c : Bool) → eqb k m ≡ c → same_atomic (cond b z (avar n)) (cond c z (avar k)) ≡ true →
           same_non_equality (against (avar n) (avar k)) (against (avar m) z) ≡ true
-      pick true i true j s = absurd (eqb_false n k e (eqb-true n m i ∙ inv (eqb-true k m j)))
+      pick true i true j s = absurd (eqb-false n k e (eqb-true n m i ∙ inv (eqb-true k m j)))
       pick true i false j s = let w = same_atomic_eq z (avar k) s in rw (i, w, eqb_same k)
       pick false i true j s = rw (i, s, j)
       pick false i false j s = absurd (false≢true (inv e ∙ s))

@@ -7,7 +7,7 @@ use mathlib.Core.Option.{Option, none, some}
 use mathlib.Core.Logic.{◌⊎◌, inl, inr}
 use native.Mathlib.Omega.{arith}
 use native.Mathlib.Decide.{dec_le}
-use lib.ListN.{length, length_append}
+use lib.ListN.{length, length-append}
 use borrow.Author.Tests.{le-ltb}
 use Rattle.expressions.specs.Expression.{Exp, nodes_all}
 use Rattle.expressions.specs.Substitution.{Substitution, apply, apply_atomic, apply_all}
@@ -136,7 +136,7 @@ module _ (p : Prog) (bodies : ℕ → ℕ) (code : List ℕ) (linked : ProgramLi
           held = held_trees P w.ends v;
           inputs = x.holds.inputs;
           outputs = x.holds.outputs;
-          entries = omega (arith, b, ap length (inv (trees_are P ts)), length_append (ends P) ts);
+          entries = omega (arith, b, ap length (inv (trees_are P ts)), length-append (ends P) ts);
           neqs = x.holds.neqs;
           count = x.holds.count;
           fits = w.fits;

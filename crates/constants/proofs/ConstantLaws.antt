@@ -2,13 +2,13 @@
 use Prim.Native.Nat.{ℕ, zero, suc, ◌+◌, ◌-◌, ◌*◌, ◌≤◌, ◌<◌, min}
 use mathlib.Core.Path.{◌≡◌, refl, ap, subst, ◌∙◌, sym as inv}
 use mathlib.Core.Bool.{Bool, true, false, cond, not}
-use mathlib.Core.List.{List, [], ◌∷◌, ◌++◌, append_assoc, append_nil}
+use mathlib.Core.List.{List, [], ◌∷◌, ◌++◌, append_assoc, append-nil}
 use native.Mathlib.Omega.{arith}
 use native.Mathlib.Decide.{dec_le}
 use lib.Dec.{eqb, ltb, leb}
-use lib.ListN.{length, get_or, set, replicate, length-set, length_append}
+use lib.ListN.{length, get_or, set, replicate, length-set, length-append}
 use lib.Seq.{sets, length-sets, get_or-set_same, get_or-set_other}
-use borrow.Author.Tests.{lt-ltb, le-ltb, ltb-true, ltb-false, leb-true, leb-false, eqb-true, eqb_false}
+use borrow.Author.Tests.{lt-ltb, le-ltb, ltb-true, ltb-false, leb-true, leb-false, eqb-true, eqb-false}
 use Rattle.runs.specs.Twins.Runs.{cells_at, run}
 use Rattle.runs.proofs.RunLaws.{Below, below_self, below_sets, run_below, length_cells_at}
 use Rattle.heap.proofs.HeapLaws.{sets_cells}
@@ -252,7 +252,7 @@ module _ (s : Laid) {used : ℕ} {code₀ h₀ : List ℕ} {i : ℕ} {code h : L
       where
         pick : (j : ℕ) → j < i + 1 → (constant_at code' j).from < (constant_at code' j).to → (b : Bool) → eqb j i ≡ b → ConstantHeld code' h' end j
         pick j l r true t = let e = eqb-true j i t in subst (λ (k : ℕ). ConstantHeld code' h' end k) (inv e) new
-        pick j l r false t = let n = eqb_false j i t in old j n (omega arith) r
+        pick j l r false t = let n = eqb-false j i t in old j n (omega arith) r
 
   -- none
   none_laid : Laying used code₀ h₀ (i + 1) s.used (entered i 0 0 code) h
@@ -276,7 +276,7 @@ module _ (s : Laid) {used : ℕ} {code₀ h₀ : List ℕ} {i : ℕ} {code h : L
           let c : constant_at (entered i 0 0 code) j ≡ constant 0 0 = ap (λ (k : ℕ). constant_at (entered i 0 0 code) k) e ∙ entered_here i 0 0 code y.long here (omega arith) (omega arith) in
           let z : 0 < 0 = subst (λ (k : Constant). k.from < k.to) c r in absurd (omega arith)
       pick j l r false t =
-          let n = eqb_false j i t in
+          let n = eqb-false j i t in
           let o = entered_other i 0 0 code j n in
           let x = y.held j (omega arith) (subst (λ (k : Constant). k.from < k.to) o r) in
           let p : (link_at (entered i 0 0 code) j).past ≡ (link_at code j).past = ap (λ (q : Link). q.past) (agrees j) in
@@ -388,4 +388,4 @@ module _ (code : List ℕ) where
         let s1 = cells_parts 1 ((j - (i + 2)) + ((kk - j) + 1)) (i + 1) in
         let s2 = cells_parts (j - (i + 2)) ((kk - j) + 1) (i + 2) in
         let s3 = cells_parts (kk - j) 1 j in
-        rw (n0, s0, one_cells i 0 0 (kk + 1) o, s1, one_cells (i + 1) 1 4 (i + 2) w, i1, s2, hc, i2, s3, hd, i3, one_cells kk 0 0 (kk + 1) e) (ap (λ (v : List ℕ). 4 ∷ (cells (apply σ c) ++ v)) (append_nil (cells (apply σ d))))
+        rw (n0, s0, one_cells i 0 0 (kk + 1) o, s1, one_cells (i + 1) 1 4 (i + 2) w, i1, s2, hc, i2, s3, hd, i3, one_cells kk 0 0 (kk + 1) e) (ap (λ (v : List ℕ). 4 ∷ (cells (apply σ c) ++ v)) (append-nil (cells (apply σ d))))

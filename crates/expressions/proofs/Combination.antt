@@ -1,7 +1,7 @@
 -- Combination of contractions (001, propositions 15 and 28), as equations of restrictions; a contradiction stays one.
 use mathlib.Core.Path.{◌≡◌, refl, ap, ap₂, subst, ◌∙◌, sym as inv}
-use mathlib.Core.Bool.{Bool, true, false, ◌&&◌, ◌||◌, or_comm, and_comm, or_true, false≢true}
-use mathlib.Core.List.{[], ◌∷◌, ◌++◌, map, append_nil, append_assoc, map_append}
+use mathlib.Core.Bool.{Bool, true, false, ◌&&◌, ◌||◌, or_comm, and_comm, or-true, false≢true}
+use mathlib.Core.List.{[], ◌∷◌, ◌++◌, map, append-nil, append_assoc, map-append}
 use mathlib.Core.Option.{Option, none, some, bind, none-ne-some, some-injective}
 use mathlib.Core.Logic.{◌⊎◌, inl, inr}
 use Prim.Native.Nat.{ℕ}
@@ -58,22 +58,22 @@ dropped_same done p q e d = pick (same_cases p q e)
 stands_append : (q : NonEquality) (ps rs : Restriction) → stands q ps ≡ true → stands q (ps ++ rs) ≡ true
 stands_append q [] rs e = absurd (false≢true e)
 stands_append q (p ∷ ps) rs e = or_either (same_non_equality p q) (stands q ps) e (λ t. ap (λ (b : Bool). b || stands q (ps ++ rs)) t)
-    (λ t. ap (λ (b : Bool). same_non_equality p q || b) (stands_append q ps rs t) ∙ or_true (same_non_equality p q))
+    (λ t. ap (λ (b : Bool). same_non_equality p q || b) (stands_append q ps rs t) ∙ or-true (same_non_equality p q))
 
 stands_last : (q : NonEquality) (ps : Restriction) → stands q (ps ++ (q ∷ [])) ≡ true
 stands_last q [] = ap (λ (b : Bool). b || false) (same_self q)
-stands_last q (p ∷ ps) = ap (λ (b : Bool). same_non_equality p q || b) (stands_last q ps) ∙ or_true (same_non_equality p q)
+stands_last q (p ∷ ps) = ap (λ (b : Bool). same_non_equality p q || b) (stands_last q ps) ∙ or-true (same_non_equality p q)
 
 dropped_append : (done rs : Restriction) (q : NonEquality) → Dropped done q → Dropped (done ++ rs) q
 dropped_append done rs q d = (
   d.0,
   or_either (is_symbol q.left && is_symbol q.right) (stands q done) d.1
       (λ t. ap (λ (b : Bool). b || stands q (done ++ rs)) t)
-      (λ t. ap (λ (b : Bool). (is_symbol q.left && is_symbol q.right) || b) (stands_append q done rs t) ∙ or_true (is_symbol q.left && is_symbol q.right)),
+      (λ t. ap (λ (b : Bool). (is_symbol q.left && is_symbol q.right) || b) (stands_append q done rs t) ∙ or-true (is_symbol q.left && is_symbol q.right)),
 )
 
 dropped_last : (done : Restriction) (q : NonEquality) → same_atomic q.left q.right ≡ false → Dropped (done ++ (q ∷ [])) q
-dropped_last done q e = (e, ap (λ (b : Bool). (is_symbol q.left && is_symbol q.right) || b) (stands_last q done) ∙ or_true (is_symbol q.left && is_symbol q.right))
+dropped_last done q e = (e, ap (λ (b : Bool). (is_symbol q.left && is_symbol q.right) || b) (stands_last q done) ∙ or-true (is_symbol q.left && is_symbol q.right))
 
 -- What would be dropped behind `done` would be dropped behind all that is kept later ..
 after_dropped : (done qs out : Restriction) (q : NonEquality) → simplify_after done qs ≡ some out → Dropped done q → Dropped out q
@@ -114,7 +114,7 @@ stands_under : (t : Substitution) (q : NonEquality) (ps : Restriction) → stand
 stands_under t q [] e = absurd (false≢true e)
 stands_under t q (p ∷ ps) e = or_either (same_non_equality p q) (stands q ps) e
     (λ s. ap (λ (b : Bool). b || stands (apply_non_equality t q) (under t ps)) (same_under t p q s))
-    (λ s. ap (λ (b : Bool). same_non_equality (apply_non_equality t p) (apply_non_equality t q) || b) (stands_under t q ps s) ∙ or_true (same_non_equality (apply_non_equality t p) (apply_non_equality t q)))
+    (λ s. ap (λ (b : Bool). same_non_equality (apply_non_equality t p) (apply_non_equality t q) || b) (stands_under t q ps s) ∙ or-true (same_non_equality (apply_non_equality t p) (apply_non_equality t q)))
 
 symbol_under : (t : Substitution) (x : AtomicExp) → is_symbol x ≡ true → apply_atomic t x ≡ x
 symbol_under t (sym z) e = refl
@@ -162,11 +162,11 @@ contradicted t done d rest q w = simplify_append done (under t d) (apply_non_equ
 -- An inner simplification is absorbed by an outer one, under any substitution.
 absorb : (t : Substitution) (done zs d ys : Restriction) → bind (simplify_after d ys) (λ o. simplify_after done (under t o ++ zs)) ≡ simplify_after done (under t (d ++ ys) ++ zs)
 unfolding bind
-absorb t done zs d [] = ap (λ (o : Restriction). simplify_after done (under t o ++ zs)) (inv (append_nil d))
+absorb t done zs d [] = ap (λ (o : Restriction). simplify_after done (under t o ++ zs)) (inv (append-nil d))
 absorb t done zs d (q ∷ ys) = pick (kind d q) (says d q) (λ b. absorb t done zs b ys)
   where
     split : (rs : Restriction) → under t (d ++ rs) ++ zs ≡ under t d ++ (under t rs ++ zs)
-    split rs = ap (λ (l : Restriction). l ++ zs) (map_append (apply_non_equality t) d rs) ∙ append_assoc (under t d) (under t rs) zs
+    split rs = ap (λ (l : Restriction). l ++ zs) (map-append (apply_non_equality t) d rs) ∙ append_assoc (under t d) (under t rs) zs
 
     pick : (k : Kind) → Says d q k → ((b : Restriction) → bind (simplify_after b ys) (λ o. simplify_after done (under t o ++ zs)) ≡ simplify_after done (under t (b ++ ys) ++ zs)) →
         bind (keep_or_drop (λ b. simplify_after b ys) d q k) (λ o. simplify_after done (under t o ++ zs)) ≡ simplify_after done (under t (d ++ (q ∷ ys)) ++ zs)
@@ -204,13 +204,13 @@ absorb_right done xs ys = ap (bind (simplify ys)) (λ i o. simplify_append done 
 
     pick : (o : Option Restriction) → bind (simplify ys) (λ p. bind o (λ b. simplify_after b p)) ≡ bind o (λ b. simplify_after b ys)
     pick none = nothing (simplify ys)
-    pick (some b) = ap (bind (simplify ys)) (λ i p. simplify_after b (inv (append_nil p) i)) ∙ absorb_left b ys [] ∙ ap (simplify_after b) (append_nil ys)
+    pick (some b) = ap (bind (simplify ys)) (λ i p. simplify_after b (inv (append-nil p) i)) ∙ absorb_left b ys [] ∙ ap (simplify_after b) (append-nil ys)
 
 -- (SS → S) first s, then t, is their composition
 pub subst_subst : (s t : Substitution) (qs : Restriction) → bind (subst_restriction s qs) (subst_restriction t) ≡ subst_restriction (compose s t) qs
 subst_subst s t qs =
-    ap (bind (subst_restriction s qs)) (λ i o. simplify (inv (append_nil (under t o)) i)) ∙ absorb t [] [] [] (under s qs)
-    ∙ ap simplify (append_nil (under t (under s qs)) ∙ under_compose s t qs)
+    ap (bind (subst_restriction s qs)) (λ i o. simplify (inv (append-nil (under t o)) i)) ∙ absorb t [] [] [] (under s qs)
+    ∙ ap simplify (append-nil (under t (under s qs)) ∙ under_compose s t qs)
 
 -- (RR → R) adding is associative
 pub add_add : (qs rs us : Restriction) → bind (add qs rs) (λ o. add o us) ≡ bind (add rs us) (add qs)
@@ -219,8 +219,8 @@ add_add qs rs us = absorb_left [] (qs ++ rs) us ∙ ap simplify (append_assoc qs
 -- (RS → SR), and proposition 15: substituting in a sum is adding what the substitution makes of both
 pub add_subst : (t : Substitution) (qs rs : Restriction) → bind (add qs rs) (subst_restriction t) ≡ bind (subst_restriction t qs) (λ o. bind (subst_restriction t rs) (add o))
 add_subst t qs rs =
-    ap (bind (add qs rs)) (λ i o. simplify (inv (append_nil (under t o)) i)) ∙ absorb t [] [] [] (qs ++ rs)
-    ∙ ap simplify (append_nil (under t (qs ++ rs)) ∙ map_append (apply_non_equality t) qs rs)
+    ap (bind (add qs rs)) (λ i o. simplify (inv (append-nil (under t o)) i)) ∙ absorb t [] [] [] (qs ++ rs)
+    ∙ ap simplify (append-nil (under t (qs ++ rs)) ∙ map-append (apply_non_equality t) qs rs)
     ∙ inv (ap (bind (subst_restriction t qs)) (λ i o. absorb_right [] o (under t rs) i) ∙ absorb_left [] (under t qs) (under t rs))
 
 pub simplify_idempotent : (qs out : Restriction) → simplify qs ≡ some out → simplify out ≡ some out

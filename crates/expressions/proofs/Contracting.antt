@@ -5,7 +5,7 @@ use mathlib.Core.Bool.{Bool, true, false, cond}
 use mathlib.Core.Option.{Option, none, some, none-ne-some, some-injective}
 use native.Mathlib.Omega.{arith}
 use lib.Dec.{eqb, ltb}
-use borrow.Author.Tests.{eqb_false, ne_eqb, ltb-true, ltb-false}
+use borrow.Author.Tests.{eqb-false, ne_eqb, ltb-true, ltb-false}
 use Rattle.expressions.specs.Expression.{Value, atom, cons, AtomicExp, sym, avar, Exp, atm, evar, pair}
 use Rattle.expressions.specs.Substitution.{GroundSubst, ground_atomic, ground_exp, apply_atomic, apply, compose_ground, id_subst, subst_e, subst_a}
 use Rattle.expressions.specs.Restriction.{Restriction, Satisfies, same_atomic}
@@ -68,7 +68,7 @@ pub equal_holds : (θ : GroundSubst) (x y : AtomicExp) → ground_atomic θ x �
 equal_holds θ x y f = pick (same_atomic x y) refl
   where
     mk : (x y : AtomicExp) → same_atomic x y ≡ false → ground_atomic θ x ≡ ground_atomic θ y → Holds (mk_bind x y) θ
-    mk (sym y) (sym z) e f = eqb_false y z e f
+    mk (sym y) (sym z) e f = eqb-false y z e f
     mk (sym y) (avar n) e f = inv f
     mk (avar m) y e f = f
 

@@ -1,6 +1,6 @@
 -- Simplification keeps the order, so that the non-equalities of a line are printed "oldest first" (01, "Printing").
 use mathlib.Core.Path.{◌≡◌, ap, subst, ◌∙◌, sym as inv}
-use mathlib.Core.List.{[], ◌∷◌, ◌++◌, append_nil, append_assoc}
+use mathlib.Core.List.{[], ◌∷◌, ◌++◌, append-nil, append_assoc}
 use mathlib.Core.Option.{some, none-ne-some, some-injective}
 use Rattle.expressions.specs.Restriction.{NonEquality, Restriction, Kind, contradiction, redundant, kept, kind, keep_or_drop, simplify_after, simplify}
 
@@ -14,7 +14,7 @@ abbrev After : Restriction → Restriction → Restriction → Type 0
 After d qs out = (ps : Restriction) × (out ≡ d ++ ps) × Subsequence ps qs
 
 after_order : (d qs out : Restriction) → simplify_after d qs ≡ some out → After d qs out
-after_order d [] out e = ([], inv (some-injective _ _ e) ∙ inv (append_nil d), done)
+after_order d [] out e = ([], inv (some-injective _ _ e) ∙ inv (append-nil d), done)
 after_order d (q ∷ qs) out e = pick (kind d q) e (λ d' f. after_order d' qs out f)
   where
     pick : (k : Kind) → keep_or_drop (λ d'. simplify_after d' qs) d q k ≡ some out → ((d' : Restriction) → simplify_after d' qs ≡ some out → After d' qs out) → After d (q ∷ qs) out

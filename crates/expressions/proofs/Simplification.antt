@@ -5,7 +5,7 @@ use mathlib.Core.Bool.{Bool, true, false, cond, ◌&&◌, ◌||◌, false≢true
 use mathlib.Core.List.{[], ◌∷◌, ◌++◌, map}
 use mathlib.Core.Option.{some, none-ne-some, some-injective}
 use native.Mathlib.Omega.{arith}
-use borrow.Author.Tests.{eqb-true, eqb_false}
+use borrow.Author.Tests.{eqb-true, eqb-false}
 use Rattle.expressions.specs.Expression.{atom, AtomicExp, sym, avar}
 use Rattle.expressions.specs.Substitution.{GroundSubst, ground_atomic, Substitution, compose_ground, subst_e, subst_a}
 use Rattle.expressions.specs.Restriction.{NonEquality, Restriction, Satisfies, same_atomic, same_non_equality, stands, is_symbol, Kind, contradiction, redundant, kept, kind, keep_or_drop, simplify_after, simplify, apply_non_equality}
@@ -41,7 +41,7 @@ stands_apart θ q [] e h = absurd (false≢true e)
 stands_apart θ q (p ∷ ps) e h = or_either (same_non_equality p q) (stands q ps) e (λ t. same_apart θ p q t h.0) (λ t. stands_apart θ q ps t h.1)
 
 symbols_apart : (θ : GroundSubst) (x y : AtomicExp) → same_atomic x y ≡ false → (is_symbol x && is_symbol y) ≡ true → ground_atomic θ x ≡ ground_atomic θ y → ⊥
-symbols_apart θ (sym y) (sym z) e t k = eqb_false y z e k
+symbols_apart θ (sym y) (sym z) e t k = eqb-false y z e k
 symbols_apart θ (sym y) (avar n) e t k = false≢true t
 symbols_apart θ (avar m) y e t k = false≢true t
 
@@ -160,10 +160,10 @@ abbrev pub distinct_atoms : ℕ → GroundSubst
 distinct_atoms k = record { e = λ n. atom (k + n); a = λ n. k + n }
 
 distinct_apart : (k : ℕ) (x y : AtomicExp) → same_atomic x y ≡ false → above x ≤ k → above y ≤ k → ground_atomic (distinct_atoms k) x ≡ ground_atomic (distinct_atoms k) y → ⊥
-distinct_apart k (sym y) (sym z) e h i = eqb_false y z e
+distinct_apart k (sym y) (sym z) e h i = eqb-false y z e
 distinct_apart k (sym y) (avar n) e h i = λ f. omega arith
 distinct_apart k (avar m) (sym z) e h i = λ f. omega arith
-distinct_apart k (avar m) (avar n) e h i = λ f. eqb_false m n e (omega arith)
+distinct_apart k (avar m) (avar n) e h i = λ f. eqb-false m n e (omega arith)
 
 distinct_satisfies : (k : ℕ) (qs : Restriction) → Consistent qs → above_all qs ≤ k → Satisfies (distinct_atoms k) qs
 distinct_satisfies k [] c h = tt

@@ -7,7 +7,7 @@ use mathlib.Core.Option.{Option, none, some}
 use mathlib.Core.Logic.{◌⊎◌, inl, inr}
 use native.Mathlib.Omega.{arith}
 use lib.Dec.{eqb}
-use borrow.Author.Tests.{eqb-true, eqb_false, ne_eqb}
+use borrow.Author.Tests.{eqb-true, eqb-false, ne_eqb}
 use Rattle.expressions.specs.Expression.{Value, atom, cons, AtomicExp, sym, avar, Exp, atm, evar, pair}
 use Rattle.expressions.specs.Substitution.{GroundSubst, ground_atomic, ground_exp}
 use Rattle.expressions.specs.Restriction.{Satisfies, same_atomic}
@@ -86,7 +86,7 @@ split_atomic_perfect {K} law P x y dx dy =
     pick : (g : K.Ground) (i : InConcretization P g) (t : Bool) → eqb (ground_atomic i.θ x) (ground_atomic i.θ y) ≡ t →
         Represents (equality_contraction x y) P g ⊎ Represents (non_equal x y) P g
     pick g i true e = inl (record { θ = i.θ; sat = i.sat; is = i.is; holds = equal_holds i.θ x y (eqb-true _ _ e) })
-    pick g i false e = inr (record { θ = i.θ; sat = i.sat; is = i.is; holds = eqb_false _ _ e })
+    pick g i false e = inr (record { θ = i.θ; sat = i.sat; is = i.is; holds = eqb-false _ _ e })
 
 -- (4) a `?e` stands for a pair or for an atom; k is the first number that is fresh for the pair
 abbrev IsPair : Value → Type 0

@@ -3,7 +3,7 @@ use Prim.Native.Nat.{ℕ}
 use mathlib.Core.Path.{◌≡◌, refl, sym as inv}
 use mathlib.Core.Bool.{Bool, true, false, ◌&&◌, ◌||◌, true≢false, false≢true}
 use lib.Dec.{eqb}
-use borrow.Author.Tests.{eqb-true, eqb_false, eq-eqb, ne_eqb}
+use borrow.Author.Tests.{eqb-true, eqb-false, eq-eqb, ne_eqb}
 
 pub or_either : {A : Type 0} (a b : Bool) → (a || b) ≡ true → (a ≡ true → A) → (b ≡ true → A) → A
 or_either true b e f g = f refl
@@ -25,4 +25,4 @@ eqb_sym m n = pick (eqb m n) refl
   where
     pick : (t : Bool) → eqb m n ≡ t → t ≡ eqb n m
     pick true e = inv (eq-eqb n m (inv (eqb-true m n e)))
-    pick false e = inv (ne_eqb n m (λ q. eqb_false m n e (inv q)))
+    pick false e = inv (ne_eqb n m (λ q. eqb-false m n e (inv q)))

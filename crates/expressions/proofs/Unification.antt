@@ -5,7 +5,7 @@ use mathlib.Core.Bool.{Bool, true, false}
 use mathlib.Core.List.{List, ◌++◌}
 use mathlib.Core.Option.{Option, none, some, bind}
 use native.Mathlib.Omega.{arith}
-use lib.ListN.{length, length_append}
+use lib.ListN.{length, length-append}
 use Rattle.expressions.specs.Expression.{Exp}
 use Rattle.expressions.specs.Substitution.{GroundSubst, ground_exp, Substitution, apply, compose, compose_ground, id_subst, subst_e, subst_a}
 use Rattle.expressions.specs.Restriction.{Restriction, Satisfies, simplify, subst_restriction}
@@ -141,7 +141,7 @@ abbrev both : Meeting → List Var
 both m = vars m.io.out ++ vars m.output
 
 both_nodes : (m : Meeting) → length (both m) < bindings_enough m
-both_nodes m = omega (arith, length_append (vars m.io.out) (vars m.output), vars_nodes m.io.out, vars_nodes m.output)
+both_nodes m = omega (arith, length-append (vars m.io.out) (vars m.output), vars_nodes m.io.out, vars_nodes m.output)
 
 both_left : (m : Meeting) → Covers (both m) m.io.out
 both_left m = covers_left (vars m.io.out) (vars m.output) m.io.out (vars_cover m.io.out)

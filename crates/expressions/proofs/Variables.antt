@@ -6,7 +6,7 @@ use mathlib.Core.List.{List, [], ◌∷◌, ◌++◌}
 use mathlib.Core.Logic.{◌⊎◌, inl, inr}
 use native.Mathlib.Omega.{arith}
 use lib.Dec.{eqb}
-use lib.ListN.{length, length_append}
+use lib.ListN.{length, length-append}
 use Rattle.expressions.specs.Expression.{AtomicExp, sym, avar, Exp, atm, evar, pair, nodes}
 use Rattle.expressions.specs.Substitution.{apply, subst_e, subst_a}
 use Rattle.expressions.specs.Restriction.{same_atomic}
@@ -139,4 +139,4 @@ pub vars_nodes : (c : Exp) → length (vars c) ≤ nodes c
 vars_nodes (atm (sym z)) = omega arith
 vars_nodes (atm (avar n)) = omega arith
 vars_nodes (evar n) = omega arith
-vars_nodes (pair c d) = omega (arith, length_append (vars c) (vars d), vars_nodes c, vars_nodes d)
+vars_nodes (pair c d) = omega (arith, length-append (vars c) (vars d), vars_nodes c, vars_nodes d)

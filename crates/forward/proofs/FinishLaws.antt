@@ -7,7 +7,7 @@ use mathlib.Core.Logic.{inl, inr}
 use native.Mathlib.Omega.{arith}
 use native.Mathlib.Decide.{dec_le}
 use lib.Dec.{ltb}
-use lib.ListN.{length, drop, length_append}
+use lib.ListN.{length, drop, length-append}
 use borrow.Author.Tests.{lt-ltb}
 use Rattle.expressions.specs.Expression.{Value, atom, cons, sym, Exp, atm, evar, pair, nodes, nodes_all}
 use Rattle.expressions.specs.Substitution.{apply}
@@ -91,7 +91,7 @@ module _ (p : Prog) (bodies : ℕ → ℕ) (code : List ℕ) (ok : Accepted p bo
     room_is : output_room c f ≡ 4096 - nodes_inputs is
     room_is =
         let ins = (at p bodies code ok empty is t σ).cr.con.io.ins in
-        let z : min c.inputs 4120 ≡ length ins = omega (arith, x.holds.inputs, x.holds.entries, entries_few x.holds (omega (arith, run_nodes is 1 t σ)), length_append ins (atm (sym 0) ∷ x.holds.values)) in
+        let z : min c.inputs 4120 ≡ length ins = omega (arith, x.holds.inputs, x.holds.entries, entries_few x.holds (omega (arith, run_nodes is 1 t σ)), length-append ins (atm (sym 0) ∷ x.holds.values)) in
         let a : nodes_from (length ins) 0 f ≡ nodes_inputs is = held_nodes (held_first ins (atm (sym 0) ∷ x.holds.values) x.holds.held) ∙ inputs_nodes is in
         ap (λ (n : ℕ). 4096 - min (nodes_from n 0 f) 4096) z ∙ ap (λ (n : ℕ). 4096 - min n 4096) a ∙ omega arith
 

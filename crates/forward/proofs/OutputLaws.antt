@@ -1,10 +1,10 @@
 -- The output of an end: the cells of its expression's value in the answer storage, or it is over the limit. The value of each name is what a source gives.
 use Prim.Native.Nat.{ℕ, zero, suc, ◌+◌, ◌-◌, ◌*◌, ◌≤◌, ◌<◌}
 use mathlib.Core.Path.{◌≡◌, refl, ap, subst, ◌∙◌, sym as inv}
-use mathlib.Core.List.{List, [], ◌∷◌, ◌++◌, append_nil}
+use mathlib.Core.List.{List, [], ◌∷◌, ◌++◌, append-nil}
 use mathlib.Core.Logic.{◌⊎◌, inl, inr}
 use native.Mathlib.Omega.{arith}
-use lib.ListN.{length, drop, get_or, length_append}
+use lib.ListN.{length, drop, get_or, length-append}
 use Rattle.expressions.specs.Expression.{sym, avar, Exp, atm, evar, pair, nodes}
 use Rattle.expressions.specs.Substitution.{Substitution, apply}
 use Rattle.language.specs.Program.{Param, pe, pa}
@@ -102,7 +102,7 @@ module _ (code : List ℕ) (c : InCells) (a : Asked) (f : List ℕ) (B : ℕ) (h
 
     name_token : (i q e : ℕ) (v : Exp) → link_at code i ≡ link 2 q 0 e → (p r g : List ℕ) → Room limit B h p r → Source B h v (named_at code c a i g f) → PutAs p r (cells v) (put 1 i (length p) g (p ++ r))
     unfolding token_put
-    name_token i q e v l p r g room (inl o) = one_token i p r (cells v) g (rw (l, o.0) (inl (refl, omega (arith, o.1, cells_nodes v), length_append p r)))
+    name_token i q e v l p r g room (inl o) = one_token i p r (cells v) g (rw (l, o.0) (inl (refl, omega (arith, o.1, cells_nodes v), length-append p r)))
     name_token i q e v l p r g room (inr s) =
         one_token i p r (cells v) g (rw (l, s.done) (range_put_lem limit B h p r (named_at code c a i g f).heap s.now s.from s.to v room s.kept s.holds s.fits (forth s.holds)))
 
@@ -123,7 +123,7 @@ module _ (code : List ℕ) (c : InCells) (a : Asked) (f : List ℕ) (B : ℕ) (h
         follow 1 ((j - (i + 2)) + ((k - j) + 1)) (i + 1) (i + 2) (4 ∷ []) (vc ++ (vd ++ [])) (omega arith) (cell_token (i + 1) 4 (i + 2) w) parts in
         let all : Part (1 + (1 + ((j - (i + 2)) + ((k - j) + 1)))) i (4 ∷ (vc ++ (vd ++ []))) =
         follow 1 (1 + ((j - (i + 2)) + ((k - j) + 1))) i (i + 1) [] (4 ∷ (vc ++ (vd ++ []))) refl (nothing_token i (k + 1) o) pair in
-        subst (λ (m : ℕ). Part m i (4 ∷ (vc ++ vd))) (inv n) (subst (λ (l : List ℕ). Part (1 + (1 + ((j - (i + 2)) + ((k - j) + 1)))) i (4 ∷ (vc ++ l))) (append_nil vd) all)
+        subst (λ (m : ℕ). Part m i (4 ∷ (vc ++ vd))) (inv n) (subst (λ (l : List ℕ). Part (1 + (1 + ((j - (i + 2)) + ((k - j) + 1)))) i (4 ∷ (vc ++ l))) (append-nil vd) all)
 
     module _ (sc : List Param) (vs : List Exp) (typed : Typed sc vs) (sources : Sources vs) where
       abbrev σ : Substitution

@@ -1,12 +1,12 @@
 -- What is written into the answer storage behind what stands there, p: cells follow it, or they are over the limit.
 use Prim.Native.Nat.{ℕ, zero, suc, ◌+◌, ◌-◌, ◌≤◌, ◌<◌, min}
 use mathlib.Core.Path.{◌≡◌, refl, ap, ap₂, ◌∙◌, sym as inv}
-use mathlib.Core.List.{List, [], ◌∷◌, ◌++◌, append_assoc, append_nil}
+use mathlib.Core.List.{List, [], ◌∷◌, ◌++◌, append_assoc, append-nil}
 use mathlib.Core.Logic.{◌⊎◌, inl, inr}
 use native.Mathlib.Omega.{arith}
-use native.Mathlib.Numerals.{add_one}
+use native.Mathlib.Numerals.{add-one}
 use native.Mathlib.Decide.{dec_le}
-use lib.ListN.{length, take, drop, get_or, set, length_append, length-drop}
+use lib.ListN.{length, take, drop, get_or, set, length-append, length-drop}
 use lib.Seq.{drop-cons, set_at, take_at, drop_at, drop-drop}
 use borrow.Author.Tests.{le-leb, lt-leb, lt-ltb, le-ltb}
 use Rattle.expressions.specs.Expression.{Exp, nodes}
@@ -25,12 +25,12 @@ run_take : (n i : ℕ) (h : List ℕ) → i + n ≤ length h → take n (drop i 
 unfolding cells_at
 run_take zero i h l = refl
 run_take (suc n) i h l =
-    ap (take (suc n)) (drop-cons h i 0 (omega arith)) ∙ ap (λ (k : List ℕ). get_or h i 0 ∷ k) (ap (λ (j : ℕ). take n (drop j h)) (inv (add_one i)) ∙ run_take n (i + 1) h (omega arith))
+    ap (take (suc n)) (drop-cons h i 0 (omega arith)) ∙ ap (λ (k : List ℕ). get_or h i 0 ∷ k) (ap (λ (j : ℕ). take n (drop j h)) (inv (add-one i)) ∙ run_take n (i + 1) h (omega arith))
 
 -- a copy behind p
 copied_behind : (src : List ℕ) (from n : ℕ) (p r : List ℕ) → from + n ≤ length src → n ≤ length r → (copied src from n (p ++ r) (length p)).cells ≡ (p ++ take n (drop from src)) ++ drop n r
 copied_behind src from n p r in_src in-r =
-    let m : length p + n ≤ length (p ++ r) = omega (arith, length_append p r) in
+    let m : length p + n ≤ length (p ++ r) = omega (arith, length-append p r) in
     let e : take (length p) (p ++ r) ≡ p = take_at p r (length p) refl in
     let f : drop (length p + n) (p ++ r) ≡ drop n r = inv (drop-drop n (length p) (p ++ r)) ∙ ap (drop n) (drop_at p r (length p) refl) in
     ap (λ (w : CopyAnswer). w.cells) (copied_done src from n (p ++ r) (length p) in_src m) ∙ rw (e, f)
@@ -61,17 +61,17 @@ module _ (limit B : ℕ) (h : List ℕ) where
   Puts p r v w = ((w.answer ≡ Over) × (limit < length p + length v) × (length w.cells ≡ length p + length r)) ⊎ Follows p r v w
 
   pub nothing_put : (p r g : List ℕ) → Room p r → Kept B h g → Puts p r [] (out_left (Done (length p)) g (p ++ r))
-  nothing_put p r g m k = inr (record { done = rw (append_nil p); is = rw (append_nil p); fits = omega (arith, m.most); kept = k })
+  nothing_put p r g m k = inr (record { done = rw (append-nil p); is = rw (append-nil p); fits = omega (arith, m.most); kept = k })
 
   pub cell_put_lem : (p r g : List ℕ) (x : ℕ) → Room p r → Kept B h g → Puts p r (x ∷ []) (beside g (cell_put x (length p) limit (p ++ r)))
   unfolding cell_put
   cell_put_lem p r g x m k = go (dec_le limit (length p))
     where
       go : Dec (limit ≤ length p) → Puts p r (x ∷ []) (beside g (cell_put x (length p) limit (p ++ r)))
-      go (yes l) = rw (le-leb limit (length p) l) (inl (refl, omega arith, length_append p r))
+      go (yes l) = rw (le-leb limit (length p) l) (inl (refl, omega arith, length-append p r))
       go (no l) =
           rw (lt-leb limit (length p) (omega arith)) (inr (record {
-            done = ap Done (inv (length_append p (x ∷ [])));
+            done = ap Done (inv (length-append p (x ∷ [])));
             is = set_behind p r x (omega (arith, m.room));
             fits = omega arith;
             kept = k;
@@ -93,33 +93,33 @@ module _ (limit B : ℕ) (h : List ℕ) where
       go : Dec (length p + nodes t ≤ limit) → Puts p r (cells t) (beside g (range_put from to (length p) limit g (p ++ r)))
       go (yes l) =
           let n = cells_nodes t in
-          let z : length (p ++ cells t) ≡ length p + nodes t = length_append p (cells t) ∙ omega arith in
+          let z : length (p ++ cells t) ≡ length p + nodes t = length-append p (cells t) ∙ omega arith in
           rw (size, le-ltb limit (length p) m.most, le-ltb (limit - length p) (nodes t) (omega arith)) (inr (record {
             done = ap Done (inv z);
             is = copied_behind g from (nodes t) p r (omega (arith, holds_nodes x, x.below, k.size)) (omega (arith, m.room)) ∙ rw (here, n);
             fits = omega arith;
             kept = k;
           }))
-      go (no l) = rw (size, le-ltb limit (length p) m.most, lt-ltb (limit - length p) (nodes t) (omega (arith, m.most))) (inl (refl, omega (arith, cells_nodes t), length_append p r))
+      go (no l) = rw (size, le-ltb limit (length p) m.most, lt-ltb (limit - length p) (nodes t) (omega (arith, m.most))) (inl (refl, omega (arith, cells_nodes t), length-append p r))
 
   -- one behind the other
   pub put_then : (p r v u : List ℕ) (w : OutLeft) (again : ℕ → List ℕ → List ℕ → OutLeft) → Room p r → Puts p r v w →
       ((g : List ℕ) → Kept B h g → Room (p ++ v) (drop (length v) r) → Puts (p ++ v) (drop (length v) r) u (again (length (p ++ v)) g ((p ++ v) ++ drop (length v) r))) →
       Puts p r (v ++ u) (onward_from again w)
-  put_then p r v u w again m (inl o) next = rw o.0 (inl (refl, omega (arith, o.1, length_append v u), o.2))
+  put_then p r v u w again m (inl o) next = rw o.0 (inl (refl, omega (arith, o.1, length-append v u), o.2))
   put_then p r v u w again m (inr a) next =
-      let n = length_append p v in
+      let n = length-append p v in
       let k : Room (p ++ v) (drop (length v) r) = record { most = omega (arith, a.fits); room = omega (arith, a.fits, m.room, length-drop (length v) r) } in
       rw (a.done, a.is) (join (next w.heap a.kept k))
     where
       join : {x : OutLeft} → Puts (p ++ v) (drop (length v) r) u x → Puts p r (v ++ u) x
-      join (inl o) = inl (o.0, omega (arith, o.1, length_append p v, length_append v u), omega (arith, o.2, length_append p v, length-drop (length v) r, a.fits, m.room))
+      join (inl o) = inl (o.0, omega (arith, o.1, length-append p v, length-append v u), omega (arith, o.2, length-append p v, length-drop (length v) r, a.fits, m.room))
       join (inr b) =
           let e = append_assoc p v u in
-          let n = length_append v u in
+          let n = length-append v u in
           inr (record {
             done = b.done ∙ ap (λ (l : List ℕ). Done (length l)) e;
             is = b.is ∙ ap₂ {C = List ℕ} ◌++◌ e (drop-drop (length u) (length v) r ∙ ap (λ (j : ℕ). drop j r) (inv n));
-            fits = omega (arith, b.fits, length_append p v);
+            fits = omega (arith, b.fits, length-append p v);
             kept = b.kept;
           })

@@ -6,9 +6,9 @@ use mathlib.Core.List.{List, [], ◌∷◌, ◌++◌}
 use mathlib.Core.Logic.{inl, inr}
 use native.Mathlib.Omega.{arith}
 use lib.Dec.{eqb, ltb}
-use lib.ListN.{length, get_or, length_append, get_or-append}
+use lib.ListN.{length, get_or, length-append, get_or-append}
 use lib.Seq.{get_or_at}
-use borrow.Author.Tests.{lt-ltb, le-ltb, ltb-true, ltb-false, eqb-true, eqb_false}
+use borrow.Author.Tests.{lt-ltb, le-ltb, ltb-true, ltb-false, eqb-true, eqb-false}
 use Rattle.expressions.specs.Expression.{AtomicExp, sym, Exp, atm, pair}
 use Rattle.expressions.specs.Substitution.{Substitution, apply, apply_all}
 use Rattle.expressions.specs.Contraction.{CRPair}
@@ -46,7 +46,7 @@ module _ (B : ℕ) (h : List ℕ) (vs : List Exp) (q : ℕ) (u : ValueLeft) (own
     where
       go : (o : Bool) → ltb q (length vs) ≡ o → Source B h (get_or (vs ++ (v ∷ [])) q (atm (sym 0))) (cond o u w)
       go true e = let k = ltb-true q (length vs) e in rw (get_or-append vs (v ∷ []) (atm (sym 0)) q k) (own k)
-      go false e = let k = ltb-false q (length vs) e in rw (get_or_at vs v [] (atm (sym 0)) q (omega (arith, length_append vs (v ∷ [])))) s
+      go false e = let k = ltb-false q (length vs) e in rw (get_or_at vs v [] (atm (sym 0)) q (omega (arith, length-append vs (v ∷ [])))) s
 
 -- or one of the two behind them
 two_sources : (B : ℕ) (h : List ℕ) (vs : List Exp) (q : ℕ) (u : ValueLeft) → (q < length vs → Source B h (get_or vs q (atm (sym 0))) u) → (a b : Exp) (w z : ValueLeft) → q < length ((vs ++ (a ∷ [])) ++ (b ∷ [])) →
@@ -56,12 +56,12 @@ two_sources B h vs q u own a b w z l s t =
     (last_source B h (vs ++ (a ∷ [])) q (cond (ltb q (length vs)) u w) (λ k. last_source B h vs q u own a w k s) b z l t)
   where
     one : length (vs ++ (a ∷ [])) ≡ length vs + 1
-    one = length_append vs (a ∷ [])
+    one = length-append vs (a ∷ [])
 
     same : (x y : Bool) → ltb q (length vs) ≡ x → eqb q (length vs) ≡ y → cond (ltb q (length (vs ++ (a ∷ [])))) (cond x u w) z ≡ cond x u (cond y w z)
     same true y e f = let k = ltb-true q (length vs) e in rw (lt-ltb q (length (vs ++ (a ∷ []))) (omega (arith, one)))
     same false true e f = let k = eqb-true q (length vs) f in rw (lt-ltb q (length (vs ++ (a ∷ []))) (omega (arith, one)))
-    same false false e f = let k = ltb-false q (length vs) e in let n = eqb_false q (length vs) f in rw (le-ltb q (length (vs ++ (a ∷ []))) (omega (arith, one, n)))
+    same false false e f = let k = ltb-false q (length vs) e in let n = eqb-false q (length vs) f in rw (le-ltb q (length (vs ++ (a ∷ []))) (omega (arith, one, n)))
 
 -- a range that is there
 at_source : {B : ℕ} {h g : List ℕ} {from to : ℕ} {v : Exp} → Holds h B from to v → B ≤ 65535 → Kept B h g → Source B h v (value_left (At from to B 0) g)

@@ -5,7 +5,7 @@ use mathlib.Core.Bool.{Bool, true, false, cond}
 use mathlib.Core.List.{List}
 use native.Mathlib.Omega.{arith}
 use lib.Dec.{eqb, leb, ltb}
-use borrow.Author.Tests.{ltb-true, eqb_false, leb-false}
+use borrow.Author.Tests.{ltb-true, eqb-false, leb-false}
 use Rattle.language.specs.Words.{Fit, fits, broken, long, many}
 use Rattle.language.specs.Tokens.{tag}
 use Rattle.language.specs.Reader.{roomed}
@@ -34,8 +34,8 @@ roomed_unfit zero {n} h = go (eqb n 1) refl (eqb n 2) refl (leb 3 n) refl
     go false x true y c z = refl
     go false x false y true z = refl
     go false x false y false z =
-        let p = eqb_false n 1 x in
-        let q = eqb_false n 2 y in
+        let p = eqb-false n 1 x in
+        let q = eqb-false n 2 y in
         let r = leb-false 3 n z in
         let e : ⊥ = omega arith in
         absurd e

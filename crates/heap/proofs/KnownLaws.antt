@@ -6,7 +6,7 @@ use mathlib.Core.List.{List, [], ◌∷◌}
 use native.Mathlib.Omega.{arith}
 use lib.Dec.{eqb}
 use lib.ListN.{length}
-use borrow.Author.Tests.{eqb-true, eqb_false}
+use borrow.Author.Tests.{eqb-true, eqb-false}
 use Rattle.expressions.specs.Expression.{Exp, atm, evar, pair, nodes}
 use Rattle.expressions.specs.Substitution.{Substitution, apply}
 use Rattle.sets.specs.Twins.Copying.{any_cell}
@@ -41,7 +41,7 @@ known_closed k {t} x e = pick (eqb (k % 2) 1) refl
     pick : (b : Bool) → eqb (k % 2) 1 ≡ b → KnownOf (cond b k (k + 1)) t
     pick true f = x
     pick false f =
-        let n : k % 2 ≡ 1 → ⊥ = eqb_false (k % 2) 1 f in
+        let n : k % 2 ≡ 1 → ⊥ = eqb-false (k % 2) 1 f in
         let z : (k + 1) / 2 ≡ k / 2 = omega (arith, n) in
         record { closed = λ w. e; head = λ l. x.head (omega arith) ∙ inv z }
 

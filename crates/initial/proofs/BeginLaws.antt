@@ -6,7 +6,7 @@ use mathlib.Core.List.{List, [], ◌∷◌}
 use mathlib.Core.Option.{Option, none, some}
 use mathlib.Core.Logic.{◌⊎◌, inl, inr}
 use native.Mathlib.Omega.{arith}
-use lib.ListN.{length, length_append}
+use lib.ListN.{length, length-append}
 use Rattle.expressions.specs.Expression.{Exp, atm, evar, pair, nodes}
 use Rattle.expressions.specs.Restriction.{Restriction, simplify}
 use Rattle.expressions.specs.Class.{IOClass}
@@ -107,7 +107,7 @@ module _ (p : Prog) (bodies : ℕ → ℕ) (code : List ℕ) where
 
     -- an entry each, and a node for each
     trees_length : (qs : Restriction) → length (trees (pair₁ qs) ins) ≡ length ins + 1 + length ins
-    trees_length qs = omega (arith, length_append ins (P.con.out ∷ ins))
+    trees_length qs = omega (arith, length-append ins (P.con.out ∷ ins))
 
     too_many : (qs : Restriction) → 4120 < length ins + 1 + length ins → 4097 < nodes_state (pair₁ qs)
     too_many qs l = omega (arith, pair_nodes (pair₁ qs) typed refl, nodes_length (trees (pair₁ qs) ins), trees_length qs)

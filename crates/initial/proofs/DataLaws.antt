@@ -2,10 +2,10 @@
 use Prim.Native.Nat.{ℕ, zero, suc, ◌+◌, ◌-◌, ◌*◌, ◌%◌, ◌≤◌, ◌<◌}
 use mathlib.Core.Path.{◌≡◌, refl, ap, ◌∙◌, sym as inv}
 use mathlib.Core.Bool.{Bool, true, false, cond, false≢true}
-use mathlib.Core.List.{List, [], ◌∷◌, ◌++◌, map, append_assoc, append_nil}
+use mathlib.Core.List.{List, [], ◌∷◌, ◌++◌, map, append_assoc, append-nil}
 use native.Mathlib.Omega.{arith}
 use lib.Dec.{eqb, ltb}
-use lib.ListN.{length, get_or, length_append}
+use lib.ListN.{length, get_or, length-append}
 use lib.Seq.{sets}
 use borrow.Author.Tests.{eqb-true, eq-eqb, ne_eqb, lt-ltb, ltb-false}
 use Rattle.expressions.proofs.Predicates.{All}
@@ -59,7 +59,7 @@ module _ (f : ℕ → List ℕ) where
   run_none i = record { left = 0; end = omega arith; cells = refl }
 
   pub run_one : {i k : ℕ} {l : List ℕ} → k ≡ i + 1 → f i ≡ l → Run f i k l
-  run_one {i} e h = record { left = 1; end = e; cells = append_nil (f i) ∙ h }
+  run_one {i} e h = record { left = 1; end = e; cells = append-nil (f i) ∙ h }
 
   pub run_then : {i j k : ℕ} {l m : List ℕ} → Run f i j l → Run f j k m → Run f i k (l ++ m)
   run_then {i} {j} u v =
@@ -74,7 +74,7 @@ module _ (f : ℕ → List ℕ) where
     where
       go : (left i : ℕ) → length (run_of f left i) ≤ left
       go zero i = omega arith
-      go (suc left) i = omega (arith, length_append (f i) (run_of f left (i + 1)), h i, go left (i + 1))
+      go (suc left) i = omega (arith, length-append (f i) (run_of f left (i + 1)), h i, go left (i + 1))
 
 -- what is laid from `at` on
 module _ (marks nums : List ℕ) where
@@ -95,7 +95,7 @@ module _ (marks nums : List ℕ) where
   all_laid (suc left) i k h l =
       let v = given i in
       let w = run_of given left (i + 1) in
-      let n = length_append v w in
+      let n = length-append v w in
       let again = all_laid left (i + 1) (k + length v) (sets h k v) (omega arith) in
       let s : k + length v + length w ≡ k + length (v ++ w) = omega arith in
       rw (one_laid i k h (omega arith), again, sets_append h k v w, s)
@@ -240,7 +240,7 @@ module _ (tok : ℕ → Token) (n : ℕ) (marks nums : List ℕ) (tokens : (i : 
       let closes : Run f k (k + 1) [] = word_run z.below (eqb-true _ _ z.key) (omega arith) (λ q. omega arith) refl in
       let u = run_then f (exp_run x h.0) (exp_run y h.1) in
       let r = run_then f opens (run_then f word (run_then f u closes)) in
-      rw append_nil at r
+      rw append-nil at r
 
   pub exps_run : {room i k : ℕ} {cs : List SExp} → ExpsAt tok n of_job ")" room i cs k → All (ExpNumbers SymbolNumber VariableNumber) (exps cs) → Run f i k (cells_all (exps cs))
   exps_run {room} {i} (at.ExpsAt.none_at w) h = run_none f i

@@ -5,7 +5,7 @@ use mathlib.Core.Path.{◌≡◌, refl, ap, ◌∙◌, sym as inv}
 use mathlib.Core.Bool.{Bool, true, false}
 use mathlib.Core.List.{List, [], ◌∷◌, ◌++◌, append_assoc}
 use native.Mathlib.Omega.{arith}
-use lib.ListN.{length, take, drop, length_append, length-drop}
+use lib.ListN.{length, take, drop, length-append, length-drop}
 use lib.Seq.{sets, length-sets, take_at}
 use borrow.Author.Tests.{le-leb}
 use Rattle.expressions.specs.Expression.{sym, Exp, atm}
@@ -70,7 +70,7 @@ module _ (jmarks jnums : List ℕ) (e : JobEnds) where
       let B = output_cells P in
       let C = side_cells P in
       let z : 0 + length A ≡ length A = omega arith in
-      let y : 0 + length (A ++ B) ≡ io_size P = omega (arith, length_append A B) in
+      let y : 0 + length (A ++ B) ≡ io_size P = omega (arith, length-append A B) in
       let one : sets (sets h 0 A) (length A) B ≡ sets h 0 (A ++ B) = ap (λ (k : ℕ). sets (sets h 0 A) k B) (inv z) ∙ sets_append h 0 A B in
       let two : sets (sets h 0 (A ++ B)) (io_size P) C ≡ sets h 0 (A ++ (B ++ C)) = ap (λ (k : ℕ). sets (sets h 0 (A ++ B)) k C) (inv y) ∙ sets_append h 0 (A ++ B) C ∙ ap (sets h 0) (append_assoc A B C) in
       rw (run_laid jmarks jnums inputs 0 h (omega arith), z, output, sides (sets (sets h 0 A) (length A) B), one, two)
@@ -121,7 +121,7 @@ module _ (P : IOClass) (h : List ℕ) (whole : length h ≡ 65535) (room : io_si
   laid_whole = length-sets h 0 (A ++ (B ++ C)) ∙ whole
 
   sizes : length (A ++ (B ++ C)) ≡ length A + (length B + length C)
-  sizes = omega (arith, length_append A (B ++ C), length_append B C)
+  sizes = omega (arith, length-append A (B ++ C), length-append B C)
 
   all_cells : cells_at (length A + (length B + length C)) 0 g ≡ A ++ (B ++ C)
   all_cells = ap (λ (k : ℕ). cells_at k 0 g) (inv sizes) ∙ sets_cells (A ++ (B ++ C)) h 0 (omega (arith, sizes))
@@ -173,4 +173,4 @@ module _ (P : IOClass) (h : List ℕ) (whole : length h ≡ 65535) (room : io_si
         rw (m, sides_copied, half) (simplify_cells_means P.neqs q1 (take_at C (drop (length C) q) (2 * length P.neqs) lc))
 
     pub sides_size : length q1 ≡ 4096
-    sides_size = omega (arith, length_append C (drop (length C) q), length-drop (length C) q)
+    sides_size = omega (arith, length-append C (drop (length C) q), length-drop (length C) q)

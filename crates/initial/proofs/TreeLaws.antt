@@ -5,8 +5,8 @@ use mathlib.Core.List.{List, [], ◌∷◌, ◌++◌, append_assoc}
 use mathlib.Core.Logic.{◌⊎◌, inl, inr}
 use native.Mathlib.Omega.{arith}
 use native.Mathlib.Decide.{dec_le}
-use native.Mathlib.Numerals.{add_one}
-use lib.ListN.{length, take, drop, get_or, length_append}
+use native.Mathlib.Numerals.{add-one}
+use lib.ListN.{length, take, drop, get_or, length-append}
 use lib.Seq.{drop-cons, take_at, drop_at}
 use Rattle.expressions.specs.Expression.{Exp, atm, evar, pair, nodes}
 use Rattle.sets.specs.Twins.Copying.{tree_end}
@@ -42,7 +42,7 @@ pub record First (h : List ℕ) (i to : ℕ) (t : Exp) (r : List ℕ) : Type 0 w
 
 first_tree : (h : List ℕ) (i to : ℕ) (t : Exp) (r : List ℕ) → i ≤ to → to ≤ length h → run i to h ≡ cells t ++ r → First h i to t r
 first_tree h i to t r l m e =
-    let k : to - i ≡ nodes t + length r = inv (length_cells_at (to - i) i h) ∙ ap length e ∙ length_append (cells t) r ∙ ap (λ (x : ℕ). x + length r) (cells_nodes t) in
+    let k : to - i ≡ nodes t + length r = inv (length_cells_at (to - i) i h) ∙ ap length e ∙ length-append (cells t) r ∙ ap (λ (x : ℕ). x + length r) (cells_nodes t) in
     let p = run_parts (nodes t) (length r) i h (cells t) r (ap (λ (x : ℕ). cells_at x i h) (inv k) ∙ e) (cells_nodes t) in
     let a : i + nodes t - i ≡ nodes t = omega arith in
     let b : to - (i + nodes t) ≡ length r = omega arith in

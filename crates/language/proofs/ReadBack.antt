@@ -6,7 +6,7 @@ use mathlib.Core.Bool.{Bool, true, false, cond}
 use mathlib.Core.List.{List, [], ◌∷◌, ◌++◌, append_assoc}
 use native.Mathlib.Omega.{arith}
 use lib.Dec.{eqb}
-use lib.ListN.{length, length_append}
+use lib.ListN.{length, length-append}
 use Rattle.expressions.proofs.Predicates.{All}
 use Rattle.expressions.proofs.Tests.{eqb_same}
 use Rattle.language.specs.Bytes.{txt}
@@ -171,11 +171,11 @@ module _ (text : Text) (symbols names : List Word) where
 
     all_long : (xs : List X) → length xs ≤ length (all_words W xs)
     all_long [] = omega arith
-    all_long (x ∷ xs) = let r = starts x in let e : length (W x) ≡ suc (length r.1) = ap (λ (l : List Word). length l) r.2 in omega (arith, length_append (W x) (all_words W xs), all_long xs, e)
+    all_long (x ∷ xs) = let r = starts x in let e : length (W x) ≡ suc (length r.1) = ap (λ (l : List Word). length l) r.2 in omega (arith, length-append (W x) (all_words W xs), all_long xs, e)
 
     pub up_to_takes : (xs : List X) → All Fine xs → Takes (Begins (txt closer)) (all_words W xs) (AllRead Q xs) (up_to closer item)
     up_to_takes xs f = record { result = λ ts s rest p. (many_takes (length (ts ++ rest)) xs (enough ts s rest p) f).result ts s rest p }
       where
         enough : (ts : List Token) → S (all_words W xs) ts → (rest : List Token) → Begins (txt closer) rest → length xs < length (ts ++ rest)
         enough ts s [] p = absurd p
-        enough ts s (c ∷ rest) p = omega (arith, spelt_length (all_words W xs) ts s, all_long xs, length_append ts (c ∷ rest))
+        enough ts s (c ∷ rest) p = omega (arith, spelt_length (all_words W xs) ts s, all_long xs, length-append ts (c ∷ rest))

@@ -6,7 +6,7 @@ use mathlib.Core.List.{List, [], ◌∷◌, ◌++◌, map}
 use mathlib.Core.Option.{none}
 use native.Mathlib.Omega.{arith}
 use lib.Dec.{eqb, leb}
-use lib.ListN.{length, length_append, drop, get_or, get_or-append}
+use lib.ListN.{length, length-append, drop, get_or, get_or-append}
 use borrow.Author.Tests.{eqb-true, leb-true, leb-false, ltb-true}
 use Rattle.expressions.specs.Expression.{Exp, atm, evar, pair}
 use Rattle.expressions.proofs.Predicates.{All}
@@ -65,7 +65,7 @@ symbol_more ws more z h =
     let l : place (get_or ws z []) ws < length ws = subst (λ (n : ℕ). n < length ws) (inv h.first) h.below in
     record {
       small = h.small;
-      below = omega (arith, length_append ws more, h.below);
+      below = omega (arith, length-append ws more, h.below);
       first = ap (λ (w : Word). place w (ws ++ more)) e ∙ place_more (get_or ws z []) ws more l ∙ h.first;
       quoted = subst (λ (w : Word). w ≡ 39 ∷ drop 1 w) (inv e) h.quoted;
       fit = subst (λ (w : Word). name_fit (drop 1 w) ≡ fits) (inv e) h.fit;
@@ -76,7 +76,7 @@ abbrev pub Found : (Word → Bool) → List Word → Piece → Type 0
 Found f ws p = f p.word ≡ true → place p.word ws < length ws
 
 grown : (w : Word) (ws more : List Word) → place w ws < length ws → place w (ws ++ more) < length (ws ++ more)
-grown w ws more l = omega (arith, place_in w ws more l, length_append ws more)
+grown w ws more l = omega (arith, place_in w ws more l, length-append ws more)
 
 found_here : (f : Word → Bool) (ws : List Word) (p : Piece) (ps : List Piece) → Found f (firsts f ws (p ∷ ps)) p
 found_here f ws p ps e = rw e (go (is_among w ws) refl)
@@ -88,7 +88,7 @@ found_here f ws p ps e = rw e (go (is_among w ws) refl)
     go true a = let x = firsts_grow f ws ps in subst (λ (l : List Word). place w l < length l) (inv x.1) (grown w ws x.0 (ltb-true _ _ a))
     go false a =
         let x = firsts_grow f (ws ++ (w ∷ [])) ps in
-        let l : place w (ws ++ (w ∷ [])) < length (ws ++ (w ∷ [])) = omega (arith, place_here w ws [], length_append ws (w ∷ [])) in
+        let l : place w (ws ++ (w ∷ [])) < length (ws ++ (w ∷ [])) = omega (arith, place_here w ws [], length-append ws (w ∷ [])) in
         subst (λ (l : List Word). place w l < length l) (inv x.1) (grown w (ws ++ (w ∷ [])) x.0 l)
 
 pub firsts_found : (f : Word → Bool) (ws : List Word) (ps : List Piece) → All (Found f (firsts f ws ps)) ps
@@ -240,7 +240,7 @@ firsts_few f ws [] = omega arith
 firsts_few f ws (p ∷ ps) = go (f p.word && not (is_among p.word ws)) (λ vs. firsts_few f vs ps)
   where
     go : (t : Bool) → ((vs : List Word) → length (firsts f vs ps) ≤ length vs + length ps) → length (firsts f (cond t (ws ++ (p.word ∷ [])) ws) ps) ≤ length ws + suc (length ps)
-    go true ih = omega (arith, ih (ws ++ (p.word ∷ [])), length_append ws (p.word ∷ []))
+    go true ih = omega (arith, ih (ws ++ (p.word ∷ [])), length-append ws (p.word ∷ []))
     go false ih = omega (arith, ih ws)
 
 pub symbols_few : (before : List Word) (bs : List ℕ) → length (symbols_of before bs) ≤ length before + suc (length bs)

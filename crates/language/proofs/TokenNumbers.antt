@@ -2,10 +2,10 @@
 use Prim.Native.Nat.{ℕ, zero, suc, ◌<◌, ◌≤◌}
 use mathlib.Core.Path.{◌≡◌, refl, ap, ap₂, subst, ◌∙◌, sym as inv}
 use mathlib.Core.Bool.{Bool, true, false, cond, ◌&&◌, ◌||◌, not}
-use mathlib.Core.List.{List, [], ◌∷◌, ◌++◌, append_assoc, append_nil}
+use mathlib.Core.List.{List, [], ◌∷◌, ◌++◌, append_assoc, append-nil}
 use native.Mathlib.Omega.{arith}
 use lib.Dec.{leb}
-use lib.ListN.{length, length_append, drop}
+use lib.ListN.{length, length-append, drop}
 use borrow.Author.Tests.{eqb-true, leb-true, leb-false, ltb-true}
 use Rattle.expressions.proofs.Predicates.{All}
 use Rattle.expressions.proofs.Tests.{and_both, or_none, eqb_same}
@@ -71,7 +71,7 @@ place_here w (v ∷ vs) more = go (same v w) (place_here w vs more)
     go false h = omega arith
 
 pub firsts_grow : (f : Word → Bool) (ws : List Word) (ps : List Piece) → (more : List Word) × (firsts f ws ps ≡ ws ++ more)
-firsts_grow f ws [] = ([], inv (append_nil ws))
+firsts_grow f ws [] = ([], inv (append-nil ws))
 firsts_grow f ws (p ∷ ps) = go (λ vs. firsts_grow f vs ps) (f p.word && not (is_among p.word ws))
   where
     go : ((vs : List Word) → (more : List Word) × (firsts f vs ps ≡ vs ++ more)) → (t : Bool) → (more : List Word) × (firsts f (cond t (ws ++ (p.word ∷ [])) ws) ps ≡ ws ++ more)
@@ -133,7 +133,7 @@ tokens_numbered t symbols ws i (p ∷ ps) l = (
 )
   where
     longer : (b : Bool) → length (cond b (ws ++ (p.word ∷ [])) ws) ≤ suc i
-    longer true = rw (length_append ws (p.word ∷ [])) (omega arith)
+    longer true = rw (length-append ws (p.word ∷ [])) (omega arith)
     longer false = omega arith
 
 pub text_numbered : (t : Text) (before : List Word) (bs : List ℕ) → All (TokenNumber t) (tokens t before bs)

@@ -7,7 +7,7 @@ use native.Mathlib.Omega.{arith}
 use native.Mathlib.Nat.{mod-eq_of_lt}
 use lib.Dec.{eqb, leb, ltb}
 use borrow.Author.Tests.{lt-ltb, ltb-true, ltb-false, leb-false, eqb-true}
-use lib.ListN.{length, take, drop, length_append}
+use lib.ListN.{length, take, drop, length-append}
 use Rattle.language.specs.Bytes.{txt}
 use Rattle.language.specs.Words.{Word, begins, Fit, fits, broken, long, many}
 use Rattle.language.specs.Tokens.{Piece, cut, Kind, symbol, ename, aname, evariable, avariable, plain, tag, same_kind, kind_of, key_of, fit_of, place, is_among, firsts, is_symbol, num_of, fitting, token, Token}
@@ -86,11 +86,11 @@ module _ (first second table : List ℕ) (ws : List Word) (w : Word) (k hash o :
   grown false e r = t
 
   grown_count : (b : Bool) → counted b k ≡ length (cond b (ws ++ (w ∷ [])) ws)
-  grown_count true = ap (λ t. cond t (k + 1) k) (lt-ltb k 65535 (omega arith)) ∙ ap (λ n. n + 1) counts ∙ sym (length_append ws (w ∷ []))
+  grown_count true = ap (λ t. cond t (k + 1) k) (lt-ltb k 65535 (omega arith)) ∙ ap (λ n. n + 1) counts ∙ sym (length-append ws (w ∷ []))
   grown_count false = counts
 
 grown_most : (b : Bool) (ws : List Word) (w : Word) (n : ℕ) → (b ≡ true → length ws < n) → length ws ≤ n → length (cond b (ws ++ (w ∷ [])) ws) ≤ n
-grown_most true ws w n h l = let k = h refl in omega (arith, length_append ws (w ∷ []))
+grown_most true ws w n h l = let k = h refl in omega (arith, length-append ws (w ∷ []))
 grown_most false ws w n h l = l
 
 empty_shuts : (o job : Bool) → shut_at o (fit_number (fit_of (text_of job) (kind_of []) [])) (key_of []) ≡ true

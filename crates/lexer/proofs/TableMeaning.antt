@@ -4,11 +4,11 @@ use mathlib.Core.Path.{◌≡◌, refl, ap, ap₂, ◌∙◌, sym}
 use mathlib.Core.Bool.{Bool, true, false, cond, ◌&&◌, true≢false, false≢true}
 use mathlib.Core.List.{List, [], ◌∷◌, ◌++◌}
 use native.Mathlib.Omega.{arith}
-use native.Mathlib.Numerals.{add_one}
+use native.Mathlib.Numerals.{add-one}
 use native.Mathlib.Decide.{ℕ_discrete}
 use lib.Dec.{eqb}
 use borrow.Author.Tests.{eq-eqb, eqb-true}
-use lib.ListN.{length, take, drop, length-drop, get_or, set, length-set, length_append, drop_of_length-le, get_or-append}
+use lib.ListN.{length, take, drop, length-drop, get_or, set, length-set, length-append, drop_of_length-le, get_or-append}
 use lib.Seq.{take_all, drop-cons, get_or-set_same, get_or-set_other, get_or_at}
 use Rattle.language.specs.Words.{Word, same, begins}
 use Rattle.language.specs.Tokens.{place}
@@ -75,7 +75,7 @@ module _ (first second table : List ℕ) where
         go : (b : Bool) → entry_is first second table (hash_of w) w k ≡ b → find_at first second table (hash_of w) w n (k + 1) ≡ (k + 1) + place w (drop (k + 1) ws) →
             cond (entry_is first second table (hash_of w) w k) k (find_at first second table (hash_of w) w n (k + 1)) ≡ k + elim b [ true ↦ 0 | false ↦ suc (place w (drop (suc k) ws)) ]
         go true x again = ap (λ t. cond t k (find_at first second table (hash_of w) w n (k + 1))) x ∙ omega arith
-        go false x again = ap (λ t. cond t k (find_at first second table (hash_of w) w n (k + 1))) x ∙ again ∙ rw (add_one k) (omega arith)
+        go false x again = ap (λ t. cond t k (find_at first second table (hash_of w) w n (k + 1))) x ∙ again ∙ rw (add-one k) (omega arith)
 
     -- the place among the words
     pub find_place : find_at first second table (hash_of w) w (length ws) 0 ≡ place w ws
@@ -86,7 +86,7 @@ module _ (first second table : List ℕ) where
     holds_entered o l e = record { hash = λ k h. at_hash k h (ℕ_discrete k (length ws)); word = λ k h. at_word k h (ℕ_discrete k (length ws)) }
       where
         behind : (k : ℕ) → k < length (ws ++ (w ∷ [])) → (k ≡ length ws → ⊥) → k < length ws
-        behind k h z = omega (arith, length_append ws (w ∷ []))
+        behind k h z = omega (arith, length-append ws (w ∷ []))
 
         last : (k : ℕ) → k ≡ length ws → get_or (ws ++ (w ∷ [])) k [] ≡ w
         last k z = get_or_at ws w [] [] k (sym z)

@@ -2,9 +2,9 @@
 use Prim.Native.Nat.{ℕ, zero, suc, ◌+◌, ◌-◌, ◌*◌, ◌≤◌, ◌<◌, min}
 use mathlib.Core.Path.{◌≡◌, refl, ap, ap₂, subst, ◌∙◌, sym as inv}
 use mathlib.Core.Bool.{Bool, true, false, cond}
-use mathlib.Core.List.{List, [], ◌∷◌, ◌++◌, append_assoc, append_nil}
+use mathlib.Core.List.{List, [], ◌∷◌, ◌++◌, append_assoc, append-nil}
 use native.Mathlib.Omega.{arith}
-use lib.ListN.{length, take, drop, replicate, length_append, length-drop, length-replicate}
+use lib.ListN.{length, take, drop, replicate, length-append, length-drop, length-replicate}
 use Rattle.expressions.specs.Expression.{Exp, nodes, nodes_all}
 use Rattle.expressions.specs.Class.{IOClass, nodes_class}
 use Rattle.expressions.specs.Contraction.{CRPair}
@@ -32,7 +32,7 @@ zeros_length n = length-replicate {A = ℕ} n 0
 -- how many cells lines take
 pub lines_length : (ls : List Line) → length (lines_cells ls) ≡ 4 * length ls + nodes_lines ls
 lines_length [] = refl
-lines_length (l ∷ ls) = omega (arith, length_append (line_cells l) (lines_cells ls), class_length l.class, lines_length ls)
+lines_length (l ∷ ls) = omega (arith, length-append (line_cells l) (lines_cells ls), class_length l.class, lines_length ls)
 
 pub lines_append : (ls rs : List Line) → lines_cells (ls ++ rs) ≡ lines_cells ls ++ lines_cells rs
 lines_append [] rs = refl
@@ -67,7 +67,7 @@ module _ (Q : IOClass) (h f q : List ℕ) (c : Class) (m : MeetingHeld (reached 
   unfolding nodes_in_line
   nodes_in =
       let cs = Q.con.ins ++ (Q.con.out ∷ []) in
-      let e : length cs ≡ c.entries = length_append Q.con.ins (Q.con.out ∷ []) ∙ inv m.entries in
+      let e : length cs ≡ c.entries = length-append Q.con.ins (Q.con.out ∷ []) ∙ inv m.entries in
       let x : Held h c.used f 0 (cs ++ (Q.con.out ∷ [])) = subst (λ (ts : List Exp). Held h c.used f 0 ts) (inv (append_assoc Q.con.ins (Q.con.out ∷ []) (Q.con.out ∷ []))) m.holds in
       let n : nodes_from (length cs) 0 f ≡ nodes_all cs = held_nodes (held_first cs (Q.con.out ∷ []) x) in
       let s = nodes_joined Q.con.ins (Q.con.out ∷ []) in
@@ -82,7 +82,7 @@ module _ (Q : IOClass) (h f q : List ℕ) (c : Class) (m : MeetingHeld (reached 
     rest = held.spare - (4 + nodes_class Q)
 
     spared : held.spare ≡ (4 + nodes_class Q) + rest
-    spared = omega (arith, ap length held.stored, length_append (lines_cells ls) (zeros held.spare), zeros_length held.spare, lines_length ls, held.sum)
+    spared = omega (arith, ap length held.stored, length-append (lines_cells ls) (zeros held.spare), zeros_length held.spare, lines_length ls, held.sum)
 
     put : line_put c steps h f q l.top a ≡ line_answer (l.top + length (line_cells line_of)) (lines_cells ls ++ (line_cells line_of ++ zeros rest))
     put =
@@ -95,13 +95,13 @@ module _ (Q : IOClass) (h f q : List ℕ) (c : Class) (m : MeetingHeld (reached 
     -- THE LAW of a line more
     pub line_stored : let w = line_put c steps h f q l.top a in LinesHeld (ls ++ (line_of ∷ [])) (n + nodes_class Q) w.answer (lines_more l (n + nodes_class Q) w.top)
     line_stored =
-        let k : lines_cells (ls ++ (line_of ∷ [])) ≡ lines_cells ls ++ line_cells line_of = lines_append ls (line_of ∷ []) ∙ ap (λ (m : List ℕ). lines_cells ls ++ m) (append_nil (line_cells line_of)) in
+        let k : lines_cells (ls ++ (line_of ∷ [])) ≡ lines_cells ls ++ line_cells line_of = lines_append ls (line_of ∷ []) ∙ ap (λ (m : List ℕ). lines_cells ls ++ m) (append-nil (line_cells line_of)) in
         rw put (record {
-          count = omega (arith, held.count, length_append ls (line_of ∷ []));
+          count = omega (arith, held.count, length-append ls (line_of ∷ []));
           nodes = refl;
           sum = omega (arith, nodes_append ls (line_of ∷ []), held.sum);
           few = fits;
-          top = omega (arith, held.top, ap length k, length_append (lines_cells ls) (line_cells line_of));
+          top = omega (arith, held.top, ap length k, length-append (lines_cells ls) (line_cells line_of));
           spare = rest;
           stored = inv (append_assoc (lines_cells ls) (line_cells line_of) (zeros rest)) ∙ ap (λ (m : List ℕ). m ++ zeros rest) (inv k);
         })
@@ -110,6 +110,6 @@ module _ (Q : IOClass) (h f q : List ℕ) (c : Class) (m : MeetingHeld (reached 
     pub line_long : length (line_put c steps h f q l.top a).answer ≡ length a
     line_long =
         let i = ap (λ (w : LineAnswer). length w.answer) put in
-        let j = length_append (lines_cells ls) (line_cells line_of ++ zeros rest) in
-        let k = length_append (line_cells line_of) (zeros rest) in
-        omega (arith, i, j, k, zeros_length rest, class_length Q, spared, ap length held.stored, length_append (lines_cells ls) (zeros held.spare), zeros_length held.spare)
+        let j = length-append (lines_cells ls) (line_cells line_of ++ zeros rest) in
+        let k = length-append (line_cells line_of) (zeros rest) in
+        omega (arith, i, j, k, zeros_length rest, class_length Q, spared, ap length held.stored, length-append (lines_cells ls) (zeros held.spare), zeros_length held.spare)

@@ -1,9 +1,9 @@
 -- The lines that stand in the answer storage are read back from it.
 use Prim.Native.Nat.{ℕ, zero, suc, ◌+◌, ◌*◌, ◌/◌, ◌%◌, ◌≤◌}
 use mathlib.Core.Path.{◌≡◌, refl, ap, ap₂, ◌∙◌, sym as inv}
-use mathlib.Core.List.{List, [], ◌∷◌, ◌++◌, append_assoc, append_nil}
+use mathlib.Core.List.{List, [], ◌∷◌, ◌++◌, append_assoc, append-nil}
 use native.Mathlib.Omega.{arith}
-use lib.ListN.{length, take, drop, length_append}
+use lib.ListN.{length, take, drop, length-append}
 use lib.Seq.{take_at, drop_at}
 use borrow.Author.Tests.{ne_eqb}
 use Rattle.expressions.specs.Expression.{AtomicExp, sym, avar, Exp, atm, evar, pair, nodes, nodes_all}
@@ -45,9 +45,9 @@ trees_read (suc n) [] l = refl
 trees_read (suc n) (c ∷ cs) l = first (cells c ++ cells_all cs) refl (trees_read n cs (omega (arith, nodes_positive c)))
   where
     first : (s : List ℕ) → s ≡ cells c ++ cells_all cs → read_trees n (cells_all cs) ≡ cs → read_trees (suc n) s ≡ c ∷ cs
-    first [] e again = absurd (omega (arith, ap length e, length_append (cells c) (cells_all cs), cells_nodes c, nodes_positive c))
+    first [] e again = absurd (omega (arith, ap length e, length-append (cells c) (cells_all cs), cells_nodes c, nodes_positive c))
     first (x ∷ s) e again =
-        let m : nodes c ≤ suc (length s) = omega (arith, ap length e, length_append (cells c) (cells_all cs), cells_nodes c) in
+        let m : nodes c ≤ suc (length s) = omega (arith, ap length e, length-append (cells c) (cells_all cs), cells_nodes c) in
         let t : read_tree (suc (length s)) (x ∷ s) ≡ tree_read c (cells_all cs) = ap (read_tree (suc (length s))) e ∙ tree_read_lem (suc (length s)) c (cells_all cs) m in
         ap₂ {C = List Exp} (λ (d : Exp) (l : List Exp). d ∷ l) (ap (λ (w : TreeRead). w.tree) t) (ap (λ (w : TreeRead). read_trees n w.rest) t ∙ again)
 
@@ -64,12 +64,12 @@ class_read P r =
     let C = restriction_cells P.neqs in
     let s : class_cells P ++ r ≡ A ++ (B ++ (C ++ r)) = simp append_assoc in
     let d : drop i (A ++ (B ++ (C ++ r))) ≡ B ++ (C ++ r) = drop_at A (B ++ (C ++ r)) i (cells_all_nodes P.con.ins) in
-    let n : length (A ++ B) ≡ i + o = omega (arith, length_append A B, cells_all_nodes P.con.ins, cells_nodes P.con.out) in
+    let n : length (A ++ B) ≡ i + o = omega (arith, length-append A B, cells_all_nodes P.con.ins, cells_nodes P.con.out) in
     let b : drop (i + o) (A ++ (B ++ (C ++ r))) ≡ C ++ r = rw (← (append_assoc A B (C ++ r))) (drop_at (A ++ B) (C ++ r) (i + o) n) in
     let ta : take i (A ++ (B ++ (C ++ r))) ≡ A = take_at A (B ++ (C ++ r)) i (cells_all_nodes P.con.ins) in
     let tb : take o (B ++ (C ++ r)) ≡ B = take_at B (C ++ r) o (cells_nodes P.con.out) in
     let tc : take (2 * length P.neqs) (C ++ r) ≡ C = take_at C r (2 * length P.neqs) (restriction_cells_nodes P.neqs) in
-    let t : read_tree o B ≡ tree_read P.con.out [] = ap (read_tree o) (inv (append_nil B)) ∙ tree_read_lem o P.con.out [] (omega arith) in
+    let t : read_tree o B ≡ tree_read P.con.out [] = ap (read_tree o) (inv (append-nil B)) ∙ tree_read_lem o P.con.out [] (omega arith) in
     rw (s, d, b, ta, tb, tc, t, trees_read i P.con.ins (omega arith), neqs_read P.neqs)
 
 line_read : (l : Line) (r : List ℕ) → read_line (line_cells l ++ r) ≡ l

@@ -4,7 +4,7 @@ use mathlib.Core.Path.{◌≡◌, ap, subst, ◌∙◌, sym as inv}
 use mathlib.Core.Bool.{Bool, true, false, cond}
 use mathlib.Core.List.{List, [], ◌∷◌, ◌++◌}
 use native.Mathlib.Omega.{arith}
-use lib.ListN.{length, get_or, set, length-set, length_append}
+use lib.ListN.{length, get_or, set, length-set, length-append}
 use lib.Seq.{get_or-set_same, get_or-set_other}
 use borrow.Author.Tests.{lt-ltb}
 use Rattle.language.specs.Tokens.{Token}
@@ -47,7 +47,7 @@ pub name_pushed : {tok : ℕ → Token} {n : ℕ} {names : List ℕ} {used m i :
 unfolding pushed_name
 name_pushed {names = names} {used} {m} {i} {sc} {x} h is =
     let c = h.count in let r = h.room in let s = h.size in let u : used < 144 = omega arith in
-    let a = length_append sc (x ∷ []) in let z = length-set names used i in
+    let a = length-append sc (x ∷ []) in let z = length-set names used i in
     rw (lt-ltb used 144 u) (record { are = names_more h.are is (omega arith) (omega arith); count = omega arith; size = omega arith; room = omega arith })
 
 module _ {tok : ℕ → Token} {n : ℕ} {marks nums ends : List ℕ} (t : TokensIn tok n marks nums ends) where

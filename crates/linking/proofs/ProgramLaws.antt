@@ -2,7 +2,7 @@
 use Prim.Native.Nat.{ℕ, zero, suc, ◌+◌, ◌-◌, ◌%◌, ◌≤◌, ◌<◌, min}
 use mathlib.Core.Path.{◌≡◌, refl, ap, ap₂, subst, ◌∙◌, sym as inv}
 use mathlib.Core.Bool.{Bool, true, false, cond}
-use mathlib.Core.List.{List, [], ◌∷◌, ◌++◌, append_assoc, append_nil}
+use mathlib.Core.List.{List, [], ◌∷◌, ◌++◌, append_assoc, append-nil}
 use native.Mathlib.Omega.{arith}
 use lib.Dec.{eqb, ltb}
 use lib.ListN.{length, get_or, replicate, length-replicate}
@@ -33,7 +33,7 @@ params_count (at.ParamsAt.a_at b x xs) = let r = params_count xs in let q = r.0 
 params_named : {tok : ℕ → Token} {n i : ℕ} {xs : List SParam} {k : ℕ} (used m : ℕ) (sc : List Param) (names : List ℕ) → ParamsAt tok n i xs k → Names tok n names used (length (params xs) + m) sc →
     (let w = parameters_named (length (params xs)) i used names in Names tok n w.names w.used m (sc ++ params xs))
 unfolding parameters_named
-params_named used m sc names (at.ParamsAt.none_at x) h = rw append_nil (names_less (omega arith) h)
+params_named used m sc names (at.ParamsAt.none_at x) h = rw append-nil (names_less (omega arith) h)
 params_named {tok} {i = i} used m sc names (at.ParamsAt.e_at {xs = ys} b x ps) h =
     let w = pushed_name used i names in rw (← append_assoc sc (pe (tok i).num ∷ []) (params ys)) (params_named w.used m (with_name (pe (tok i).num) sc) w.names ps (name_pushed (names_less (omega arith) h) (e_name x)))
 params_named {tok} {i = i} used m sc names (at.ParamsAt.a_at {xs = ys} b x ps) h =

@@ -7,7 +7,7 @@ use native.Mathlib.Omega.{arith}
 use lib.Dec.{eqb, ltb}
 use lib.ListN.{length, get_or, drop, get_or-append}
 use lib.Seq.{get_or-append-add}
-use borrow.Author.Tests.{ltb-true, ltb-false, lt-ltb, le-ltb, eqb-true, eqb_false, ne_eqb}
+use borrow.Author.Tests.{ltb-true, ltb-false, lt-ltb, le-ltb, eqb-true, eqb-false, ne_eqb}
 use Rattle.expressions.proofs.Tests.{eqb_same}
 use Rattle.language.specs.Words.{Word, same}
 use Rattle.language.specs.Tokens.{place, is_among}
@@ -81,10 +81,10 @@ free_passed ns (suc k) n h i l a b q = go (is_among (name_q n) ns) refl h l b (e
         ((h i : ℕ) → h < length later → suc n ≤ i → i < get_or later h 0 → is_among (name_q i) ns ≡ false → (g : ℕ) × (g < h) × (get_or later g 0 ≡ i)) →
         (g : ℕ) × (g < h) × (get_or (step t n later) g 0 ≡ i)
     go true e h l b true f ih = absurd (true≢false (inv e ∙ ap (λ (j : ℕ). is_among (name_q j) ns) (eqb-true n i f) ∙ q))
-    go true e h l b false f ih = let o = eqb_false n i f in ih h i l (more o) b q
+    go true e h l b false f ih = let o = eqb-false n i f in ih h i l (more o) b q
     go false e zero l b u f ih = absurd (omega arith)
     go false e (suc h) l b true f ih = (0, omega arith, eqb-true n i f)
-    go false e (suc h) l b false f ih = let r = ih h i (omega arith) (more (eqb_false n i f)) b q in (suc r.0, omega (arith, r.1), r.2)
+    go false e (suc h) l b false f ih = let r = ih h i (omega arith) (more (eqb-false n i f)) b q in (suc r.0, omega (arith, r.1), r.2)
 
 -- each is another: its place tells it
 abbrev pub index_of : ℕ → List ℕ → ℕ

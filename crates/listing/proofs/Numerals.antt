@@ -5,7 +5,7 @@ use mathlib.Core.Bool.{Bool, true, false, cond, ◌&&◌, ◌||◌, not, false�
 use mathlib.Core.List.{List, [], ◌∷◌, ◌++◌}
 use native.Mathlib.Omega.{arith}
 use lib.Dec.{ltb, leb}
-use lib.ListN.{length, length_append}
+use lib.ListN.{length, length-append}
 use borrow.Author.Tests.{ltb-true, ltb-false, le-leb, ne_eqb}
 use Rattle.expressions.proofs.Predicates.{All, all_append}
 use Rattle.expressions.proofs.Tests.{and_both}
@@ -119,7 +119,7 @@ within_short (suc d) (suc k) n h = go (ltb n 10) (within_short d k (n / 10) (ome
   where
     go : (t : Bool) → length (digits_within k (n / 10)) ≤ suc d → length (one_or t n (digits_within k (n / 10))) ≤ suc (suc d)
     go true l = omega arith
-    go false l = omega (arith, length_append (digits_within k (n / 10)) ((48 + n % 10) ∷ []))
+    go false l = omega (arith, length-append (digits_within k (n / 10)) ((48 + n % 10) ∷ []))
 
 pub digits_short : (d n : ℕ) → n < tens d → length (digits n) ≤ suc d
 digits_short d n h = within_short d (suc n) n h

@@ -6,7 +6,7 @@ use mathlib.Core.Bool.{Bool, true, false, cond, ◌||◌, false≢true, true≢f
 use mathlib.Core.List.{List, [], ◌∷◌, ◌++◌, map}
 use mathlib.Core.Logic.{◌⊎◌, inl, inr}
 use native.Mathlib.Omega.{arith}
-use lib.ListN.{length, length_append, length-map, get_or, drop, get_or-map}
+use lib.ListN.{length, length-append, length-map, get_or, drop, get_or-map}
 use borrow.Author.Tests.{ltb-true, lt-ltb}
 use Rattle.expressions.specs.Expression.{sym, avar, Exp, atm, evar, pair, nodes, nodes_all}
 use Rattle.expressions.specs.Substitution.{ground_exp, ground_all}
@@ -69,7 +69,7 @@ add_keeps w v ws l = go (has_variable w ws)
   where
     go : (t : Bool) → In (cond t ws (ws ++ (w ∷ []))) v
     go true = l
-    go false = omega (arith, place_keep v ws (w ∷ []) l, length_append ws (w ∷ []))
+    go false = omega (arith, place_keep v ws (w ∷ []) l, length-append ws (w ∷ []))
 
 of_keeps : (c v : Exp) (ws : List Exp) → In ws v → In (variables_of c ws) v
 of_keeps (atm (sym z)) v ws l = l
@@ -114,7 +114,7 @@ add_few v ws = go (has_variable v ws)
   where
     go : (t : Bool) → length (cond t ws (ws ++ (v ∷ []))) ≤ suc (length ws)
     go true = omega arith
-    go false = omega (arith, length_append ws (v ∷ []))
+    go false = omega (arith, length-append ws (v ∷ []))
 
 of_few : (c : Exp) (ws : List Exp) → length (variables_of c ws) ≤ length ws + nodes c
 of_few (atm (sym z)) ws = omega arith
@@ -133,11 +133,11 @@ module _ (names : List Word) (vs : List Exp) where
   printed_long (pair c d) =
       let pc = print_value names (ground_exp (sampling vs) c) in
       let pd = print_value names (ground_exp (sampling vs) d) in
-      omega (arith, printed_long c, printed_long d, length_append (pc ++ (32 ∷ pd)) (41 ∷ []), length_append pc (32 ∷ pd))
+      omega (arith, printed_long c, printed_long d, length-append (pc ++ (32 ∷ pd)) (41 ∷ []), length-append pc (32 ∷ pd))
 
   inputs_long : (cs : List Exp) → nodes_all cs ≤ length (print_inputs names (ground_all (sampling vs) cs))
   inputs_long [] = omega arith
-  inputs_long (c ∷ cs) = omega (arith, printed_long c, inputs_long cs, length_append (print_value names (ground_exp (sampling vs) c)) (print_inputs names (ground_all (sampling vs) cs)))
+  inputs_long (c ∷ cs) = omega (arith, printed_long c, inputs_long cs, length-append (print_value names (ground_exp (sampling vs) c)) (print_inputs names (ground_all (sampling vs) cs)))
 
 pub job_covers : (names : List Word) (n : ℕ) (c : IOPair) → length (variables c) ≤ length (written_job names n (sample c))
 job_covers names n c =
@@ -145,7 +145,7 @@ job_covers names n c =
     let d = print_value names (ground_exp (sampling vs) c.out) in
     let is = print_inputs names (ground_all (sampling vs) c.ins) in
     let e : length (written_job names n (sample c)) ≡ length (txt "(job (in" ++ (is ++ (txt ") (out " ++ (d ++ (41 ∷ job_tail n))))) = ap (λ (l : List ℕ). length l) (bytes_grouped names n (sample c)) in
-    omega (arith, e, length_append is (txt ") (out " ++ (d ++ (41 ∷ job_tail n))), length_append d (41 ∷ job_tail n), of_few c.out (variables_of_all c.ins []), all_few c.ins [], printed_long names vs c.out, inputs_long names vs c.ins)
+    omega (arith, e, length-append is (txt ") (out " ++ (d ++ (41 ∷ job_tail n))), length-append d (41 ∷ job_tail n), of_few c.out (variables_of_all c.ins []), all_few c.ins [], printed_long names vs c.out, inputs_long names vs c.ins)
 
 -- ws are the words of the symbols of the texts, m is how many variables the line has
 module _ (ws : List Word) (m : ℕ) where

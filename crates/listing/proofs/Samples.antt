@@ -4,7 +4,7 @@ use mathlib.Core.Path.{◌≡◌, refl, ap, ap₂, ◌∙◌, sym as inv}
 use mathlib.Core.Bool.{Bool, true, false, cond, ◌||◌, false≢true}
 use mathlib.Core.List.{List, [], ◌∷◌}
 use native.Mathlib.Omega.{arith}
-use borrow.Author.Tests.{eqb_false, eqb-true, ne_eqb}
+use borrow.Author.Tests.{eqb-false, eqb-true, ne_eqb}
 use Rattle.expressions.specs.Expression.{AtomicExp, sym, avar, Exp, atm, evar, pair}
 use Rattle.expressions.specs.Substitution.{ground_atomic}
 use Rattle.expressions.specs.Restriction.{Restriction, Satisfies, same_atomic}
@@ -65,10 +65,10 @@ place_apart m n (v ∷ vs) e = pick (same v (va m)) refl (same v (va n)) refl (p
     pick false q false r ih f = ih (omega arith)
 
 apart : (vs : List Exp) (x y : AtomicExp) → same_atomic x y ≡ false → AtomicNumbers SymbolNumber AnyNumber x → AtomicNumbers SymbolNumber AnyNumber y → ground_atomic (sampling vs) x ≡ ground_atomic (sampling vs) y → ⊥
-apart vs (sym y) (sym z) e h k f = eqb_false y z e f
+apart vs (sym y) (sym z) e h k f = eqb-false y z e f
 apart vs (sym y) (avar n) e h k f = omega arith
 apart vs (avar m) (sym z) e h k f = omega arith
-apart vs (avar m) (avar n) e h k f = eqb_false m n e (place_apart m n vs (omega arith))
+apart vs (avar m) (avar n) e h k f = eqb-false m n e (place_apart m n vs (omega arith))
 
 sampling_satisfies : (vs : List Exp) (qs : Restriction) → Consistent qs → Each (NeqNumbers SymbolNumber AnyNumber) qs → Satisfies (sampling vs) qs
 sampling_satisfies vs [] c h = tt

@@ -6,7 +6,7 @@ use mathlib.Core.List.{List, [], ◌∷◌, ◌++◌}
 use native.Mathlib.Omega.{arith}
 use native.Mathlib.Decide.{dec_le}
 use lib.Dec.{ltb}
-use lib.ListN.{length, length_append, get_or-eq_default}
+use lib.ListN.{length, length-append, get_or-eq_default}
 use borrow.Author.Tests.{lt-ltb, le-ltb, ltb-true, ltb-false}
 use Rattle.expressions.specs.Expression.{Exp, nodes, nodes_all}
 use Rattle.expressions.specs.Substitution.{Substitution, apply, apply_all}
@@ -26,7 +26,7 @@ abbrev pub trees : Meeting → List Exp
 trees m = m.io.ins ++ (m.io.out ∷ (m.output ∷ []))
 
 pub trees_length : (m : Meeting) → length (trees m) ≡ length m.io.ins + 2
-trees_length m = length_append m.io.ins (m.io.out ∷ (m.output ∷ []))
+trees_length m = length-append m.io.ins (m.io.out ∷ (m.output ∷ []))
 
 pub nodes_append : (cs ds : List Exp) → nodes_all (cs ++ ds) ≡ nodes_all cs + nodes_all ds
 nodes_append [] ds = omega arith

@@ -2,13 +2,13 @@
 use Prim.Native.Nat.{ℕ, zero, suc, ◌+◌, ◌-◌, ◌*◌, ◌%◌, ◌≤◌, ◌<◌, min}
 use mathlib.Core.Path.{◌≡◌, refl, ap, ap₂, subst, ◌∙◌, sym as inv}
 use mathlib.Core.Bool.{Bool, true, false, cond}
-use mathlib.Core.List.{List, [], ◌∷◌, ◌++◌, append_assoc, append_nil}
+use mathlib.Core.List.{List, [], ◌∷◌, ◌++◌, append_assoc, append-nil}
 use native.Mathlib.Omega.{arith}
-use native.Mathlib.Numerals.{add_one}
+use native.Mathlib.Numerals.{add-one}
 use lib.Dec.{eqb}
-use lib.ListN.{length, take, drop, get_or, length_append, take-append-drop}
+use lib.ListN.{length, take, drop, get_or, length-append, take-append-drop}
 use lib.Seq.{drop-cons, drop-drop, drop-append_seam, get_or-drop}
-use borrow.Author.Tests.{eqb-true, eqb_false, ne_eqb, le-leb, lt-leb}
+use borrow.Author.Tests.{eqb-true, eqb-false, ne_eqb, le-leb, lt-leb}
 use Rattle.expressions.specs.Expression.{AtomicExp, sym, avar, Exp, atm, evar, pair, nodes}
 use Rattle.expressions.specs.Restriction.{same_atomic}
 use Rattle.expressions.specs.Contraction.{Contraction, identity, contra, bind_e, bind_a, non_equal, mk_bind}
@@ -71,7 +71,7 @@ data Scan (w u : Exp) : Type 0 where
 
 here : (w u : Exp) → (top w ≡ top u → ⊥) → Scan w u
 here w u h = differs (λ i. h (ap top (disagreement_identity w u (subst IsIdentity (inv i) tt))))
-    (record { front = []; a = w; b = u; xs = []; ys = []; wanted = inv (append_nil (cells w)); output = inv (append_nil (cells u)); apart = h; says = refl })
+    (record { front = []; a = w; b = u; xs = []; ys = []; wanted = inv (append-nil (cells w)); output = inv (append-nil (cells u)); apart = h; says = refl })
 
 keep : (κ l : Contraction) → (κ ≡ identity → ⊥) → first κ l ≡ κ
 keep identity l h = absurd (h refl)
@@ -92,12 +92,12 @@ scan (atm x) (atm y) = pick (same_atomic x y) refl
   where
     pick : (t : Bool) → same_atomic x y ≡ t → Scan (atm x) (atm y)
     pick true e = equal (ap atm (same_atomic_eq x y e)) (rw e)
-    pick false e = here (atm x) (atm y) (eqb_false (atomic_code x) (atomic_code y) (atomic_code_same x y ∙ e))
+    pick false e = here (atm x) (atm y) (eqb-false (atomic_code x) (atomic_code y) (atomic_code_same x y ∙ e))
 scan (evar m) (evar n) = pick (eqb m n) refl
   where
     pick : (t : Bool) → eqb m n ≡ t → Scan (evar m) (evar n)
     pick true e = equal (ap evar (eqb-true m n e)) (rw e)
-    pick false e = here (evar m) (evar n) (λ q. eqb_false m n e (omega arith))
+    pick false e = here (evar m) (evar n) (λ q. eqb-false m n e (omega arith))
 scan (pair a b) (pair c d) = pick (scan a c) (scan b d)
   where
     pick : Scan a c → Scan b d → Scan (pair a b) (pair c d)
@@ -130,7 +130,7 @@ run_take : (n i : ℕ) (h : List ℕ) → i + n ≤ length h → cells_at n i h 
 unfolding cells_at
 run_take zero i h l = refl
 run_take (suc n) i h l =
-    rw (drop-cons h i 0 (omega arith)) (ap (λ (k : List ℕ). get_or h i 0 ∷ k) (run_take n (i + 1) h (omega arith) ∙ ap (λ (k : ℕ). take n (drop k h)) (add_one i)))
+    rw (drop-cons h i 0 (omega arith)) (ap (λ (k : List ℕ). get_or h i 0 ∷ k) (run_take n (i + 1) h (omega arith) ∙ ap (λ (k : ℕ). take n (drop k h)) (add-one i)))
 
 pub run_part : (from to : ℕ) (h : List ℕ) → to ≤ length h → run from to h ≡ part from to h
 unfolding cells_at
@@ -253,8 +253,8 @@ module _ (h : List ℕ) (used wfrom wto ufrom uto : ℕ) (w u : Exp) (whole : le
       let t = run_stands h ufrom uto D.front D.b D.ys (inv (run_part ufrom uto h (omega (arith, output.below))) ∙ output.is ∙ D.output) in
       let lw = ap length D.wanted in
       let lu = ap length D.output in
-      let l : wfrom + n + nodes D.a ≤ wto = omega (arith, lw, length_append D.front (cells D.a ++ D.xs), length_append (cells D.a) D.xs, cells_nodes D.a, cells_nodes w, w_end) in
-      let r : ufrom + n + nodes D.b ≤ uto = omega (arith, lu, length_append D.front (cells D.b ++ D.ys), length_append (cells D.b) D.ys, cells_nodes D.b, cells_nodes u, u_end) in
+      let l : wfrom + n + nodes D.a ≤ wto = omega (arith, lw, length-append D.front (cells D.a ++ D.xs), length-append (cells D.a) D.xs, cells_nodes D.a, cells_nodes w, w_end) in
+      let r : ufrom + n + nodes D.b ≤ uto = omega (arith, lu, length-append D.front (cells D.b ++ D.ys), length-append (cells D.b) D.ys, cells_nodes D.b, cells_nodes u, u_end) in
       rw (
         D.says,
         at_difference n key,

@@ -1,9 +1,9 @@
 -- A line stands in the answer storage behind what stood there, and the place behind it is answered.
 use Prim.Native.Nat.{ℕ, ◌+◌, ◌*◌, ◌≤◌, ◌<◌, min}
 use mathlib.Core.Path.{◌≡◌, refl, ap, ap₂, subst, ◌∙◌, sym as inv}
-use mathlib.Core.List.{List, [], ◌∷◌, ◌++◌, append_assoc, append_nil}
+use mathlib.Core.List.{List, [], ◌∷◌, ◌++◌, append_assoc, append-nil}
 use native.Mathlib.Omega.{arith}
-use lib.ListN.{length, take, drop, set, length_append, length-drop}
+use lib.ListN.{length, take, drop, set, length-append, length-drop}
 use lib.Seq.{set_at, take_at, drop_at, drop-drop}
 use Rattle.expressions.specs.Expression.{Exp, nodes, nodes_all}
 use Rattle.expressions.specs.Contraction.{CRPair}
@@ -28,14 +28,14 @@ use Rattle.meetings.proofs.ClassLaws.{nodes_append, MeetingHeld, few, output_at_
 -- how many cells a line takes
 pub class_length : (P : IOClass) → length (class_cells P) ≡ nodes_class P
 class_length P =
-    let a = length_append (cells_all P.con.ins) (cells P.con.out ++ restriction_cells P.neqs) in
-    let b = length_append (cells P.con.out) (restriction_cells P.neqs) in
+    let a = length-append (cells_all P.con.ins) (cells P.con.out ++ restriction_cells P.neqs) in
+    let b = length-append (cells P.con.out) (restriction_cells P.neqs) in
     omega (arith, cells_all_nodes P.con.ins, cells_nodes P.con.out, restriction_cells_nodes P.neqs)
 
 -- a store behind p and h
 set_behind : (p h : List ℕ) (at k : ℕ) → length p ≡ at → length h ≡ k → (y : ℕ) (r : List ℕ) (a : ℕ) → set (p ++ (h ++ (y ∷ r))) (at + k) a ≡ p ++ (h ++ (a ∷ r))
 set_behind p h at k is this y r a =
-    let n : length (p ++ h) ≡ at + k = length_append p h ∙ omega arith in
+    let n : length (p ++ h) ≡ at + k = length-append p h ∙ omega arith in
     rw (← (append_assoc p h (y ∷ r))) (set_at (p ++ h) y r a (at + k) n ∙ append_assoc p h (a ∷ r))
 
 abbrev header : ℕ → ℕ → ℕ → ℕ → List ℕ
@@ -75,7 +75,7 @@ module _ (steps ins out neqs top : ℕ) (p : List ℕ) (is : length p ≡ top) (
 -- a copy behind p
 copied_behind : (src : List ℕ) (from n : ℕ) (p r : List ℕ) (at : ℕ) → length p ≡ at → from + n ≤ length src → n ≤ length r → (copied src from n (p ++ r) at).cells ≡ (p ++ take n (drop from src)) ++ drop n r
 copied_behind src from n p r at is in_src in-r =
-    let m : at + n ≤ length (p ++ r) = omega (arith, length_append p r) in
+    let m : at + n ≤ length (p ++ r) = omega (arith, length-append p r) in
     let e : take at (p ++ r) ≡ p = take_at p r at is in
     let f : drop (at + n) (p ++ r) ≡ drop n r = inv (drop-drop n at (p ++ r)) ∙ ap (drop n) (drop_at p r at is) in
     ap (λ (w : CopyAnswer). w.cells) (copied_done src from n (p ++ r) at in_src m) ∙ rw (e, f)
@@ -96,10 +96,10 @@ module _ (h f : List ℕ) (used : ℕ) (in_heap_lem : used ≤ length h) where
   entries_put_lem : (ts us : List Exp) (i : ℕ) → Held h used f i (ts ++ us) → i + length ts ≤ 4120 → (p r : List ℕ) (top : ℕ) → length p ≡ top → top + nodes_all ts ≤ last_place → nodes_all ts ≤ length r →
       entries_put (length ts) i h f top (p ++ r) ≡ line_answer (top + nodes_all ts) ((p ++ cells_all ts) ++ drop (nodes_all ts) r)
   unfolding entries_put
-  entries_put_lem [] us i x small p r top is low room = let e : top + 0 ≡ top = omega arith in rw (e, append_nil p)
+  entries_put_lem [] us i x small p r top is low room = let e : top + 0 ≡ top = omega arith in rw (e, append-nil p)
   entries_put_lem (t ∷ ts) us i (more x k y) small p r top is low room =
       let one = entry_put_lem i t x (omega arith) p r top is (omega arith) (omega arith) in
-      let again = entries_put_lem ts us (i + 1) y (omega arith) (p ++ cells t) (drop (nodes t) r) (top + nodes t) (length_append p (cells t) ∙ omega (arith, cells_nodes t)) (omega arith) (omega (arith, length-drop (nodes t) r)) in
+      let again = entries_put_lem ts us (i + 1) y (omega arith) (p ++ cells t) (drop (nodes t) r) (top + nodes t) (length-append p (cells t) ∙ omega (arith, cells_nodes t)) (omega arith) (omega (arith, length-drop (nodes t) r)) in
       let n : top + nodes t + nodes_all ts ≡ top + (nodes t + nodes_all ts) = omega arith in
       ap (on_from (entries_put (length ts) (i + 1) h f)) one ∙ again ∙ rw (n, drop-drop (nodes_all ts) (nodes t) r, append_assoc p (cells t) (cells_all ts))
 
@@ -146,14 +146,14 @@ module _ {P : CRPair meeting} {h f q : List ℕ} {c : Class} (m : MeetingHeld P 
     pairs_nodes = omega (arith, nodes_append ins (out ∷ []))
 
     pairs_cells : cells_all pairs ≡ cells_all ins ++ cells out
-    pairs_cells = cells_append ins (out ∷ []) ∙ ap (λ (l : List ℕ). cells_all ins ++ l) (append_nil (cells out))
+    pairs_cells = cells_append ins (out ∷ []) ∙ ap (λ (l : List ℕ). cells_all ins ++ l) (append-nil (cells out))
 
     second : entries_put (output_entry c) 0 h f (top + 4) ((p ++ hdr) ++ drop 4 r) ≡ line_answer (top + 4 + nodes_all pairs) (((p ++ hdr) ++ cells_all pairs) ++ drop (nodes_all pairs) (drop 4 r))
     second =
-        let n : output_entry c ≡ length pairs = output_at_lem m ∙ inv (length_append ins (out ∷ [])) in
+        let n : output_entry c ≡ length pairs = output_at_lem m ∙ inv (length-append ins (out ∷ [])) in
         let x : Held h c.used f 0 (pairs ++ (P.con.output ∷ [])) = subst (λ (ts : List Exp). Held h c.used f 0 ts) (inv (append_assoc ins (out ∷ []) (P.con.output ∷ []))) m.holds in
-        let l : length (p ++ hdr) ≡ top + 4 = length_append p hdr ∙ omega arith in
-        rw n (entries_put_lem h f c.used (omega (arith, m.of_heap)) pairs (P.con.output ∷ []) 0 x (omega (arith, few m, length_append ins (out ∷ []))) (p ++ hdr) (drop 4 r) (top + 4) l
+        let l : length (p ++ hdr) ≡ top + 4 = length-append p hdr ∙ omega arith in
+        rw n (entries_put_lem h f c.used (omega (arith, m.of_heap)) pairs (P.con.output ∷ []) 0 x (omega (arith, few m, length-append ins (out ∷ []))) (p ++ hdr) (drop 4 r) (top + 4) l
         (omega (arith, pairs_nodes)) (omega (arith, pairs_nodes, length-drop 4 r)))
 
     third : (a : List ℕ) (k : ℕ) (rest : List ℕ) → length a ≡ k → k ≤ last_place → 2 * length P.neqs ≤ length rest →
@@ -173,7 +173,7 @@ module _ {P : CRPair meeting} {h f q : List ℕ} {c : Class} (m : MeetingHeld P 
         let R = drop (nodes_all pairs) (drop 4 r) in
         let k = top + 4 + nodes_all pairs in
         let N = 2 * length P.neqs in
-        let l : length A ≡ k = omega (arith, length_append (p ++ hdr) (cells_all pairs), length_append p hdr, cells_all_nodes pairs) in
+        let l : length A ≡ k = omega (arith, length-append (p ++ hdr) (cells_all pairs), length-append p hdr, cells_all_nodes pairs) in
         let d : drop N R ≡ drop (4 + nodes_all pairs + N) r = ap (drop N) (drop-drop (nodes_all pairs) 4 r) ∙ drop-drop N (4 + nodes_all pairs) r in
         let z : 4 + nodes_all pairs + N ≡ length (line_cells steps Q) = omega (arith, line_size, pairs_nodes) in
         let t : k + N ≡ top + length (line_cells steps Q) = omega (arith, line_size, pairs_nodes) in

@@ -8,7 +8,7 @@ use native.Mathlib.Omega.{arith}
 use lib.Dec.{eqb, ltb, leb}
 use lib.ListN.{length, get_or}
 use lib.Seq.{sets, length-sets}
-use borrow.Author.Tests.{ltb-true, le-ltb, eq-eqb, ne_eqb, eqb_false}
+use borrow.Author.Tests.{ltb-true, le-ltb, eq-eqb, ne_eqb, eqb-false}
 use Rattle.expressions.specs.Expression.{AtomicExp, sym, avar, Exp, atm, evar, pair, nodes}
 use Rattle.expressions.specs.Substitution.{apply}
 use Rattle.expressions.specs.Contraction.{CRPair}
@@ -183,7 +183,7 @@ module _ (used now from to k : ℕ) (g : List ℕ) (grown : used ≤ now) (fits 
       pick : (z : Bool) → eqb (k / 2) 0 ≡ z → cond z (tree_end g (from + 1)) (min (from + 1) 65535 + k / 2) ≡ from + 1 + nodes a
       pick true e = head_end at (omega arith)
       pick false e =
-          let n = eqb_false (k / 2) 0 e in
+          let n = eqb-false (k / 2) 0 e in
           let h : nodes a ≡ k / 2 = kn.head (omega (arith, n)) in
           let m = holds_nodes at in
           omega (arith, h, m, at.below)

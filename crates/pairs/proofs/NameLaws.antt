@@ -4,7 +4,7 @@ use mathlib.Core.Path.{◌≡◌, refl, ap, subst, ◌∙◌, sym as inv}
 use mathlib.Core.Bool.{false}
 use mathlib.Core.List.{List, [], ◌∷◌, ◌++◌, append_assoc}
 use native.Mathlib.Omega.{arith}
-use lib.ListN.{length, length_append}
+use lib.ListN.{length, length-append}
 use borrow.Author.Tests.{lt-leb}
 use Rattle.expressions.specs.Expression.{AtomicExp, Exp, atm, nodes}
 use Rattle.expressions.specs.Contraction.{CRPair}
@@ -71,10 +71,10 @@ module _ {h f q : List ℕ} {c : Configuration} {names : List Param} {P : CRPair
   trees_parts vs = inv (append_assoc P.con.io.ins (P.con.io.out ∷ []) vs)
 
   ios_length : length ios ≡ length P.con.io.ins + 1
-  ios_length = length_append P.con.io.ins (P.con.io.out ∷ [])
+  ios_length = length-append P.con.io.ins (P.con.io.out ∷ [])
 
   trees_length : (vs : List Exp) → length (trees P vs) ≡ length P.con.io.ins + 1 + length vs
-  trees_length vs = let a = length_append P.con.io.ins (P.con.io.out ∷ vs) in omega arith
+  trees_length vs = let a = length-append P.con.io.ins (P.con.io.out ∷ vs) in omega arith
 
   -- the names begin behind inputs and output
   pub base_is : names_from c ≡ length P.con.io.ins + 1
@@ -106,7 +106,7 @@ module _ {h f q : List ℕ} {c : Configuration} {names : List Param} {P : CRPair
         held = rw trees_last (pushed_held x.held x.entries is x.fits room x.frame_size);
         inputs = x.inputs;
         outputs = x.outputs;
-        entries = omega (arith, x.entries, ap length trees_last, length_append (trees P x.values) (v ∷ []));
+        entries = omega (arith, x.entries, ap length trees_last, length-append (trees P x.values) (v ∷ []));
         neqs = x.neqs;
         count = x.count;
         fits = x.fits;

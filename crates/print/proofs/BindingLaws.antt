@@ -2,12 +2,12 @@
 use Prim.Native.Nat.{ℕ, suc, ◌+◌, ◌-◌, ◌*◌, ◌%◌, ◌≤◌, ◌<◌, min}
 use mathlib.Core.Path.{◌≡◌, refl, ap, ap₂, subst, ◌∙◌, sym as inv}
 use mathlib.Core.Bool.{Bool, true, false, cond}
-use mathlib.Core.List.{List, [], ◌∷◌, ◌++◌, append_assoc, append_nil}
+use mathlib.Core.List.{List, [], ◌∷◌, ◌++◌, append_assoc, append-nil}
 use native.Mathlib.Omega.{arith}
-use native.Mathlib.Numerals.{add_one}
+use native.Mathlib.Numerals.{add-one}
 use lib.Dec.{eqb, ltb}
 use borrow.Author.Tests.{lt-ltb, le-ltb, eq-eqb, ne_eqb}
-use lib.ListN.{length, get_or, take, drop, length_append}
+use lib.ListN.{length, get_or, take, drop, length-append}
 use lib.Seq.{take-suc, drop_at}
 use Rattle.expressions.specs.Expression.{sym, avar, Exp, atm, evar, pair, nodes, nodes_all}
 use Rattle.expressions.specs.Substitution.{Substitution, apply, apply_all}
@@ -61,14 +61,14 @@ behind_at : {s : List ℕ} {at : ℕ} {c : Exp} {rest : List ℕ} → Stands s a
 behind_at {s} {at} {c} {rest} t = subst (λ (k : ℕ). drop k s ≡ rest) (stands_end t) (stands_behind t)
 
 take_next : (l : List ℕ) (i x : ℕ) → i < length l → get_or l i 0 ≡ x → take (i + 1) l ≡ take i l ++ (x ∷ [])
-take_next l i x h e = ap (λ (k : ℕ). take k l) (add_one i) ∙ take-suc l i 0 h ∙ ap (λ (y : ℕ). take i l ++ (y ∷ [])) e
+take_next l i x h e = ap (λ (k : ℕ). take k l) (add-one i) ∙ take-suc l i 0 h ∙ ap (λ (y : ℕ). take i l ++ (y ∷ [])) e
 
 module _ (ns : List Word) (name : ℕ → List ℕ) (named : (z : ℕ) → name z ≡ 39 ∷ get_or ns z []) where
   abbrev shown : Exp → Exp → List ℕ
   shown v e = cond (same v e) [] (32 ∷ print ns v ++ (61 ∷ print ns e))
 
   print_last : (bs : List Binding) (v e : Exp) → print_bindings ns (bs ++ (bound v e ∷ [])) ≡ print_bindings ns bs ++ shown v e
-  print_last [] v e = append_nil (shown v e)
+  print_last [] v e = append-nil (shown v e)
   print_last (b ∷ bs) v e =
       ap (λ (l : List ℕ). shown b.var b.exp ++ l) (print_last bs v e) ∙ inv (append_assoc (shown b.var b.exp) (print_bindings ns bs) (shown v e))
 
@@ -117,7 +117,7 @@ module _ (ns : List Word) (name : ℕ → List ℕ) (named : (z : ℕ) → name 
       added_text bs = go (is_bound v bs)
         where
           go : (t : Bool) → print_bindings ns (cond t bs (bs ++ (bound v e ∷ []))) ≡ print_bindings ns bs ++ cond t [] (shown v e)
-          go true = inv (append_nil (print_bindings ns bs))
+          go true = inv (append-nil (print_bindings ns bs))
           go false = print_last bs v e
 
     -- what is printed of the cells passed and of those to come stays the same
@@ -216,12 +216,12 @@ module _ (ns : List Word) (name : ℕ → List ℕ) (named : (z : ℕ) → name 
   bindings_printed j p f g =
       let vars = pair_cells j in
       let l = pair_cells p in
-      let size : length vars ≡ nodes_all j.ins + (nodes j.out + 0) = omega (arith, length_append (cells_all j.ins) (cells j.out), cells_all_nodes j.ins, cells_nodes j.out) in
+      let size : length vars ≡ nodes_all j.ins + (nodes j.out + 0) = omega (arith, length-append (cells_all j.ins) (cells j.out), cells_all_nodes j.ins, cells_nodes j.out) in
       let a = all_on vars l j.ins p.ins f (length vars) (nodes j.out + 0) 0 0 (cells j.out) (cells p.out) [] size refl refl (λ v h. refl) in
       let sv : Stands vars (0 + nodes_all j.ins) j.out [] = record { here = drop_front (cells_all j.ins) (cells j.out) (0 + nodes_all j.ins) (omega (arith, cells_all_nodes j.ins)) } in
       let se : Stands l (0 + nodes_all p.ins) p.out [] = record { here = drop_front (cells_all p.ins) (cells p.out) (0 + nodes_all p.ins) (omega (arith, cells_all_nodes p.ins)) } in
       let b = exp_on vars l j.out p.out g (nodes j.out + 0) 0 (0 + nodes_all j.ins) (0 + nodes_all p.ins) [] [] (bindings_of_all j.ins p.ins []) refl sv se a.1 in
-      a.0 ∙ b.0 ∙ append_nil (print_bindings ns (bindings j p))
+      a.0 ∙ b.0 ∙ append-nil (print_bindings ns (bindings j p))
     where
       drop_front : (a b : List ℕ) (n : ℕ) → length a ≡ n → drop n (a ++ b) ≡ b ++ []
-      drop_front a b n e = drop_at a b n e ∙ inv (append_nil b)
+      drop_front a b n e = drop_at a b n e ∙ inv (append-nil b)

@@ -2,9 +2,9 @@
 use Prim.Native.Nat.{ℕ, suc, ◌+◌, ◌-◌, ◌*◌}
 use mathlib.Core.Path.{◌≡◌, refl, ap, ap₂, ◌∙◌, sym as inv}
 use mathlib.Core.Bool.{Bool, false}
-use mathlib.Core.List.{List, [], ◌∷◌, ◌++◌, append_assoc, append_nil}
+use mathlib.Core.List.{List, [], ◌∷◌, ◌++◌, append_assoc, append-nil}
 use native.Mathlib.Omega.{arith}
-use lib.ListN.{length, get_or, take, drop, length_append}
+use lib.ListN.{length, get_or, take, drop, length-append}
 use lib.Seq.{take_at, drop_at, drop-drop}
 use Rattle.expressions.specs.Expression.{nodes, nodes_all}
 use Rattle.expressions.specs.Restriction.{Restriction}
@@ -55,13 +55,13 @@ module _ (s a b q : ℕ) (X Q rest : List ℕ) (size : length X ≡ a + b) (side
   line_behind =
       let n : line_end line ≡ 4 + (length X + length Q) = omega arith in
       ap (λ (k : ℕ). drop k line) n ∙ behind_head (length X + length Q)
-      ∙ ap (drop (length X + length Q)) (inv (append_assoc X Q rest)) ∙ drop_at (X ++ Q) rest (length X + length Q) (length_append X Q)
+      ∙ ap (drop (length X + length Q)) (inv (append_assoc X Q rest)) ∙ drop_at (X ++ Q) rest (length X + length Q) (length-append X Q)
 
 -- the sizes in the head of a line are those of its parts
 pub pair_size : (L : Line) → length (pair_cells L.class.con) ≡ nodes_all L.class.con.ins + nodes L.class.con.out
 pair_size L =
     let p = L.class.con in
-    length_append (cells_all p.ins) (cells p.out) ∙ ap₂ (λ (x y : ℕ). x + y) (cells_all_nodes p.ins) (cells_nodes p.out)
+    length-append (cells_all p.ins) (cells p.out) ∙ ap₂ (λ (x y : ℕ). x + y) (cells_all_nodes p.ins) (cells_nodes p.out)
 
 abbrev pub line_of : Line → List ℕ → List ℕ
 line_of L rest = let P = L.class in line L.steps (nodes_all P.con.ins) (nodes P.con.out) (length P.neqs) (pair_cells P.con) (restriction_cells P.neqs) rest (pair_size L) (restriction_cells_lem P.neqs)
@@ -134,4 +134,4 @@ module _ (ns : List Word) (name : ℕ → List ℕ) (named : (z : ℕ) → name 
     unfolding print_listing
     listing_printed =
         listing_each false (λ (L : Line). InstanceOf j L.class) (print_line ns j.con) (print_lines ns j.con) (λ k. refl) (λ k L Ls. refl)
-        (λ i L rest is. append_nil (line_text name vars i (line_of L rest)) ∙ line_printed i L rest is)
+        (λ i L rest is. append-nil (line_text name vars i (line_of L rest)) ∙ line_printed i L rest is)

@@ -4,7 +4,7 @@ use mathlib.Core.Path.{◌≡◌, refl, ap, ap₂, ◌∙◌, sym as inv}
 use mathlib.Core.Bool.{Bool, true, false}
 use mathlib.Core.List.{List, [], ◌++◌, append_assoc}
 use native.Mathlib.Omega.{arith}
-use lib.ListN.{length, take, drop, replicate, length_append}
+use lib.ListN.{length, take, drop, replicate, length-append}
 use lib.Seq.{sets, length-sets, take_at}
 use Rattle.expressions.specs.Expression.{Value}
 use Rattle.expressions.specs.Class.{IOClass}
@@ -78,7 +78,7 @@ laid_front P h room =
     let A = cells_all P.con.ins in
     let B = cells P.con.out in
     let C = restriction_cells P.neqs in
-    ap (λ (k : ℕ). take k (job_heap P h)) (inv (length_append A B)) ∙ ap (λ (w : List ℕ). take (length (A ++ B)) (sets h 0 w)) (inv (append_assoc A B C)) ∙ front_kept (A ++ B) C h (omega (arith, length_append A B))
+    ap (λ (k : ℕ). take k (job_heap P h)) (inv (length-append A B)) ∙ ap (λ (w : List ℕ). take (length (A ++ B)) (sets h 0 w)) (inv (append_assoc A B C)) ∙ front_kept (A ++ B) C h (omega (arith, length-append A B))
 
 module _ (program job : List ℕ) where
   -- The listing, by what is read of the texts, with samples or without.

@@ -2,7 +2,7 @@
 use Prim.Native.Nat.{ℕ, zero, suc, ◌+◌, ◌-◌, ◌*◌, ◌/◌, ◌%◌, ◌≤◌, ◌<◌}
 use mathlib.Core.Path.{◌≡◌, refl, ap, ap₂, subst, ◌∙◌, sym as inv}
 use mathlib.Core.Bool.{Bool, cond}
-use mathlib.Core.List.{List, [], ◌∷◌, ◌++◌, append_assoc, append_nil}
+use mathlib.Core.List.{List, [], ◌∷◌, ◌++◌, append_assoc, append-nil}
 use native.Mathlib.Omega.{arith}
 use borrow.Author.Tests.{lt-ltb, le-ltb, eq-eqb, ne_eqb}
 use lib.ListN.{length, get_or, drop, replicate, length-drop}
@@ -134,8 +134,8 @@ module _ (ns : List Word) (name : ℕ → List ℕ) (named : (z : ℕ) → name 
 
   print_bare : (e : Exp) → bare e ++ brackets (own e) ≡ print ns e
   unfolding bare own
-  print_bare (atm x) = append_nil (print_atomic ns x)
-  print_bare (evar n) = append_nil (print ns (evar n))
+  print_bare (atm x) = append-nil (print_atomic ns x)
+  print_bare (evar n) = append-nil (print ns (evar n))
   print_bare (pair c d) =
       let b : bare d ++ brackets (suc (own d)) ≡ print ns d ++ (41 ∷ []) =
       ap (λ (l : List ℕ). bare d ++ l) (inv (bracket_last (own d))) ∙ inv (append_assoc (bare d) (brackets (own d)) (41 ∷ [])) ∙ ap (λ (l : List ℕ). l ++ (41 ∷ [])) (print_bare d) in
@@ -206,16 +206,16 @@ module _ (ns : List Word) (name : ℕ → List ℕ) (named : (z : ℕ) → name 
   behind_last : (e : Exp) → behind_leaf (cells e) (0 + nodes e) ≡ brackets (own e)
   unfolding behind_leaf
   behind_last e =
-      let w : Stands (cells e) 0 e [] = record { here = inv (append_nil (cells e)) } in
+      let w : Stands (cells e) 0 e [] = record { here = inv (append-nil (cells e)) } in
       let l : length (cells e) ≤ 0 + nodes e = omega (arith, cells_nodes e) in
       let o : closings (cells e) (0 + nodes e) 0 ≡ own e = omega (arith, closings_own (cells e) e 0 [] w, closings_end (cells e) 0 1 (omega arith)) in
-      ap₂ (λ (n : ℕ) (t : Bool). brackets n ++ cond t (32 ∷ []) []) o (le-ltb (0 + nodes e) (length (cells e)) l) ∙ append_nil (brackets (own e))
+      ap₂ (λ (n : ℕ) (t : Bool). brackets n ++ cond t (32 ∷ []) []) o (le-ltb (0 + nodes e) (length (cells e)) l) ∙ append-nil (brackets (own e))
 
   pub tree_printed : (e : Exp) → tree_text name (cells e) ≡ print ns e
   unfolding tree_text tree_from
   tree_printed e =
-      let w : Stands (cells e) 0 e [] = record { here = inv (append_nil (cells e)) } in
+      let w : Stands (cells e) 0 e [] = record { here = inv (append-nil (cells e)) } in
       let n : length (cells e) ≡ nodes e + 0 = omega (arith, cells_nodes e) in
       tree_cells (cells e) e 0 [] 0 (length (cells e)) n w
-      ∙ ap (λ (l : List ℕ). bare e ++ l) (append_nil (behind_leaf (cells e) (0 + nodes e)) ∙ behind_last e)
+      ∙ ap (λ (l : List ℕ). bare e ++ l) (append-nil (behind_leaf (cells e) (0 + nodes e)) ∙ behind_last e)
       ∙ print_bare e

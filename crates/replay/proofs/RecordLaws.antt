@@ -6,7 +6,7 @@ use mathlib.Core.List.{List, [], ◌∷◌, ◌++◌}
 use mathlib.Core.Option.{Option, some}
 use native.Mathlib.Omega.{arith}
 use native.Mathlib.Decide.{dec_le}
-use lib.ListN.{length, take, length_append}
+use lib.ListN.{length, take, length-append}
 use lib.Seq.{take_all, take_at}
 use Rattle.language.specs.Program.{Prog}
 use Rattle.semantics.specs.Configuration.{nodes_state, Configuration}
@@ -175,7 +175,7 @@ module _ (p : Prog) (bodies : ℕ → ℕ) (code : List ℕ) (K₀ : Configurati
     where
       go : Dec (k ≤ length (qs ++ (o ∷ []))) → (k ≤ length (qs ++ (o ∷ [])) → Older h r.at.used cs (take k (qs ++ (o ∷ [])))) → Older h used (c ∷ cs) (take k ((qs ++ (o ∷ [])) ++ (r ∷ [])))
       go (yes i) again = rw (take_joined k (qs ++ (o ∷ [])) r i) (older_passed l (again i))
-      go (no i) again = record { qs = qs ++ (o ∷ []); r = r; is = take_all k ((qs ++ (o ∷ [])) ++ (r ∷ [])) (omega (arith, length_append (qs ++ (o ∷ [])) (r ∷ []))); saves = keeps r m y e t d x z l s }
+      go (no i) again = record { qs = qs ++ (o ∷ []); r = r; is = take_all k ((qs ++ (o ∷ [])) ++ (r ∷ [])) (omega (arith, length-append (qs ++ (o ∷ [])) (r ∷ []))); saves = keeps r m y e t d x z l s }
 
   -- Where going back to the choice that comes after ds begins: at y₁, or at the choice of the last record.
   pub data Resumed (h : List ℕ) (ds : List Choice) (qs : List Record) (r : Record) : Type 0 where

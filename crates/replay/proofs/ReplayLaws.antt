@@ -2,12 +2,12 @@
 use Prim.Native.Nat.{ℕ, zero, suc, ◌+◌, ◌*◌, ◌≤◌, ◌<◌, min}
 use mathlib.Core.Path.{◌≡◌, refl, ap, subst, ◌∙◌, sym as inv}
 use mathlib.Core.Bool.{Bool, true, false, cond}
-use mathlib.Core.List.{List, [], ◌∷◌, ◌++◌, append_nil, append_assoc}
+use mathlib.Core.List.{List, [], ◌∷◌, ◌++◌, append-nil, append_assoc}
 use mathlib.Core.Option.{Option, none, some}
 use mathlib.Core.Logic.{◌⊎◌, inl, inr}
 use native.Mathlib.Omega.{arith}
 use lib.Dec.{eqb, leb}
-use lib.ListN.{length, take, length_append}
+use lib.ListN.{length, take, length-append}
 use lib.Seq.{length-take-le}
 use borrow.Author.Tests.{le-leb, lt-leb}
 use Rattle.language.specs.Program.{Prog}
@@ -220,7 +220,7 @@ module _ (p : Prog) (bodies : ℕ → ℕ) (code : List ℕ) (ok : Accepted p bo
         decided_shows = showing roomy_held (branches b c) e
 
         fewer : length es < length ds
-        fewer = omega (arith, ap length is, length_append xs (ch ∷ es))
+        fewer = omega (arith, ap length is, length-append xs (ch ∷ es))
 
         not_there : is_there code pos.node (length ds) ≡ false
         not_there = let s = showing a (branches b c) e in rw (s.6.calls ∙ s.1, lt-leb (length ds) pos.node.depth (omega (arith, a.depth, fewer)))
@@ -360,14 +360,14 @@ module _ (p : Prog) (bodies : ℕ → ℕ) (code : List ℕ) (ok : Accepted p bo
         let g : Entered p y₁.conf = reaches_good p (Entered p) leads₁ entered₀ in
         let a = resumed top [] b₀ held y₁ rec top [] first g (record { older = []; last = b₀; holding = held; saves = only {used = b₀.at.used} rec (omega arith) }) in
         let w = reaches_rest p (Entered p) decider leads₁ (trail_of ds) x.leads in
-        rw (brings_is top [] b₀ held y₁ rec top z) (follow_means path ds on-path within x.node decider w ds [] (inv (append_nil ds)) refl leads₁ N (omega (arith, (reaches_steps p (Entered p) leads₁).0)) _ h _ _ saved a)
+        rw (brings_is top [] b₀ held y₁ rec top z) (follow_means path ds on-path within x.node decider w ds [] (inv (append-nil ds)) refl leads₁ N (omega (arith, (reaches_steps p (Entered p) leads₁).0)) _ h _ _ saved a)
 
     from_later : (top : ℕ) (xs es : List Choice) (m : ℕ) (y : Node) (ps : List Record) (o r : Record) → ds ≡ xs ++ es → Root es m y → Decides p y → Recorded p bodies code h r y → r.depth ≡ length es →
         Saves p bodies code K₀ N y₁ b₀ h r.at.used es ps o → Holding saved top ((ps ++ (o ∷ [])) ++ (r ∷ [])) → Brought (brings top)
     from_later top xs es m y ps o r is t d rec dep s held =
         let l = saves_first p bodies code K₀ N y₁ b₀ s in
         let u : length (records_cells (ps ++ (o ∷ []))) ≡ length (record_cells b₀) + length (records_cells l.0) = ap (λ (rs : List Record). length (records_cells rs)) l.1 ∙ first_cells l.0 in
-        let v : top ≡ length (records_cells (ps ++ (o ∷ []))) + length (record_cells r) = held.size ∙ ap length (records_snoc (ps ++ (o ∷ [])) r) ∙ length_append (records_cells (ps ++ (o ∷ []))) (record_cells r) in
+        let v : top ≡ length (records_cells (ps ++ (o ∷ []))) + length (record_cells r) = held.size ∙ ap length (records_snoc (ps ++ (o ∷ [])) r) ∙ length-append (records_cells (ps ++ (o ∷ []))) (record_cells r) in
         let n = record_length r (fit_last (ps ++ (o ∷ [])) r held.fits) in
         let t' = length (records_cells (ps ++ (o ∷ []))) in
         let z : kept_top t' top base ≡ t' = rw (lt-leb top base (omega (arith, bottom))) in
@@ -378,7 +378,7 @@ module _ (p : Prog) (bodies : ℕ → ℕ) (code : List ℕ) (ok : Accepted p bo
         rw (brings_is top (ps ++ (o ∷ [])) r held y rec t' z) (follow_means path ds on-path within x.node decider w xs es is refl t N (omega (arith, (reaches_steps p (Entered p) t).0)) _ h _ _ saved a)
       where
         first_cells : (l : List Record) → length (records_cells (b₀ ∷ l)) ≡ length (record_cells b₀) + length (records_cells l)
-        first_cells l = ap length (records_more b₀ l) ∙ length_append (record_cells b₀) (records_cells l)
+        first_cells l = ap length (records_more b₀ l) ∙ length-append (record_cells b₀) (records_cells l)
 
     pub bring_means : {used top : ℕ} {cs : List Choice} → Kept p bodies code K₀ N y₁ b₀ h saved used top cs → backtrack cs ≡ b ∷ ds → Brought (brings top)
     bring_means {used} {top} {cs} k e = go (resumed_latest p bodies code K₀ N y₁ b₀ k.saves b ds e)

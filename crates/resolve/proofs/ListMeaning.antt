@@ -7,7 +7,7 @@ use mathlib.Core.Option.{Option, none, some}
 use mathlib.Core.Logic.{inl, inr}
 use native.Mathlib.Omega.{arith}
 use lib.Dec.{eqb}
-use lib.ListN.{length, replicate, length_append}
+use lib.ListN.{length, replicate, length-append}
 use borrow.Author.Tests.{eqb-true, eq-eqb, lt-ltb}
 use Rattle.language.specs.Bytes.{Refusal}
 use Rattle.language.specs.Tokens.{Text, of_program, of_job, symbols_of}
@@ -99,7 +99,7 @@ leaves_word (stopped stop23 r) v h = rw (h.ending, h.count, h.lines.count) refl
 leaves_cells : (w : Walked) (v : JobLeft) (d : List ℕ) → Leaves w v → length v.answer ≡ length d → v.answer ≡ lines_then (lines_of w) d
 leaves_cells w v d h l =
     let c = lines_cells (lines_of w) in
-    let n : h.lines.spare ≡ length d - length c = omega (arith, l, ap length h.lines.stored, length_append c (lines.zeros h.lines.spare), zeros_length h.lines.spare) in
+    let n : h.lines.spare ≡ length d - length c = omega (arith, l, ap length h.lines.stored, length-append c (lines.zeros h.lines.spare), zeros_length h.lines.spare) in
     h.lines.stored ∙ ap (λ (k : ℕ). c ++ replicate k 0) n
 
 -- what a walk came to, by its answer

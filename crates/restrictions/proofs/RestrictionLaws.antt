@@ -6,9 +6,9 @@ use mathlib.Core.List.{List, [], ◌∷◌, ◌++◌, map, append_assoc}
 use mathlib.Core.Logic.{◌↔◌}
 use mathlib.Core.Option.{Option, none, some, bind}
 use native.Mathlib.Omega.{arith}
-use native.Mathlib.Numerals.{add_one}
+use native.Mathlib.Numerals.{add-one}
 use lib.Dec.{eqb, leb}
-use lib.ListN.{length, take, drop, get_or, set, length_append, length-take, length-drop, length-set, length-map, take-append-drop}
+use lib.ListN.{length, take, drop, get_or, set, length-append, length-take, length-drop, length-set, length-map, take-append-drop}
 use lib.Seq.{take-suc-set, drop-set-lt, take_at, drop_at}
 use borrow.Author.Tests.{lt-leb, leb-true}
 use Rattle.expressions.specs.Expression.{AtomicExp, sym, avar}
@@ -127,7 +127,7 @@ module _ (q : List ℕ) (k x y : ℕ) (room : 2 * k + 2 ≤ length q) where
       let e : 2 * (k + 1) ≡ suc (2 * k + 1) = omega arith in
       let a : 2 * k < length q = omega arith in
       let b : 2 * k + 1 < length (set q (2 * k) x) = omega (arith, length-set q (2 * k) x) in
-      rw (e, take-suc-set (set q (2 * k) x) (2 * k + 1) y b, add_one (2 * k), take-suc-set q (2 * k) x a, append_assoc)
+      rw (e, take-suc-set (set q (2 * k) x) (2 * k + 1) y b, add-one (2 * k), take-suc-set q (2 * k) x a, append_assoc)
 
   append_behind : (n : ℕ) → k < n → drop (2 * n) (append_cells k x y q) ≡ drop (2 * n) q
   append_behind n h =
@@ -142,7 +142,7 @@ restriction_snoc (q ∷ qs) r = rw (restriction_snoc qs r)
 
 append_front : (done : Restriction) (r : NonEquality) (q : List ℕ) → 2 * length done + 2 ≤ length q → Front done q →
     Front (done ++ (r ∷ [])) (append_cells (length done) (atomic_code r.left) (atomic_code r.right) q)
-append_front done r q room f = rw (length_append done (r ∷ []), append_take q (length done) (atomic_code r.left) (atomic_code r.right) room, f) (inv (restriction_snoc done r))
+append_front done r q room f = rw (length-append done (r ∷ []), append_take q (length done) (atomic_code r.left) (atomic_code r.right) room, f) (inv (restriction_snoc done r))
 
 answers_same : (n : ℕ) (s q : List ℕ) → drop (2 * n) s ≡ drop (2 * n) q → length s ≡ length q → (o : Option Restriction) (w : RestrictAnswer) → Answers n s o w → Answers n q o w
 answers_same n s q d l none w a = (a.0, a.1 ∙ d, a.2 ∙ l)
@@ -174,7 +174,7 @@ after_means done (r ∷ todo) i n q le e f g =
         let y = atomic_code r.right in
         let s = append_cells (length done) x y q in
         let space : 2 * length done + 2 ≤ length q = omega arith in
-        let m : length d ≡ length done + 1 = length_append done (r ∷ []) in
+        let m : length d ≡ length done + 1 = length-append done (r ∷ []) in
         let g : From (i + 1) todo s = rw (append_behind q (length done) x y space (i + 1) (omega arith)) t in
         rw (← m) (answers_same n s q (append_behind q (length done) x y space n (omega arith)) (append_length q (length done) x y space)
         (simplify_after d todo) (simplify_from (length todo) (i + 1) (length d) s) (ih d s (omega arith) (append_front done r q space f) g))
@@ -197,7 +197,7 @@ add_cells_means qs r q e f room = rw (kind_cells_means qs r q f, simplify_append
     pick kept =
         let x = atomic_code r.left in
         let y = atomic_code r.right in
-        let m : length (qs ++ (r ∷ [])) ≡ length qs + 1 = length_append qs (r ∷ []) in
+        let m : length (qs ++ (r ∷ [])) ≡ length qs + 1 = length-append qs (r ∷ []) in
         rw (lt-leb (length q / 2) (length qs) (omega arith)) (
           ap Kept (inv m),
           append_front qs r q room f,
@@ -249,7 +249,7 @@ module _ (m : ℕ) (x : AtomicExp) (qs : Restriction) (q : List ℕ) (f : Front 
       let filled : renamed (2 * length qs) (avar_code m) (atomic_code x) q ≡ s = rw whole at (renamed_restriction m x qs rest) in
       let sized : length (restriction_cells ps) ≡ 2 * length qs = restriction_cells_nodes ps ∙ ap (λ (k : ℕ). 2 * k) n in
       let size : length s ≡ length q =
-      omega (arith, length_append (restriction_cells ps) rest, ap length whole, length_append (restriction_cells qs) rest, restriction_cells_nodes qs, sized) in
+      omega (arith, length-append (restriction_cells ps) rest, ap length whole, length-append (restriction_cells qs) rest, restriction_cells_nodes qs, sized) in
       rw filled (answers_same (length qs) s q (drop_at (restriction_cells ps) rest (2 * length qs) sized) size
       (simplify ps) (simplify_cells (length qs) s) (rw n at (simplify_cells_means ps s (take_at (restriction_cells ps) rest (2 * length ps) (restriction_cells_nodes ps)))))
 

@@ -5,7 +5,7 @@ use mathlib.Core.Bool.{Bool, true, false, cond}
 use mathlib.Core.List.{List, [], ◌∷◌}
 use native.Mathlib.Omega.{arith}
 use native.Mathlib.Decide.{dec_le}
-use native.Mathlib.Numerals.{add_one}
+use native.Mathlib.Numerals.{add-one}
 use lib.Dec.{eqb}
 use lib.ListN.{length, drop, get_or, length-drop}
 use lib.Seq.{drop-cons}
@@ -19,7 +19,7 @@ two_cells q i h =
     let a : 2 * i < length q = omega arith in
     let b : suc (2 * i) < length q = omega arith in
     let e : 2 * (i + 1) ≡ suc (suc (2 * i)) = omega arith in
-    rw (e, add_one (2 * i), drop-cons q (2 * i) 0 a, drop-cons q (suc (2 * i)) 0 b)
+    rw (e, add-one (2 * i), drop-cons q (2 * i) 0 a, drop-cons q (suc (2 * i)) 0 b)
 
 module _ (x y a b : ℕ) where
   pub either_written : a ≡ x → b ≡ y → either_order x y a b ≡ true

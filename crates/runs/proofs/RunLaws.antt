@@ -6,11 +6,11 @@ use mathlib.Core.List.{List, [], ◌∷◌, ◌++◌, append_assoc}
 use native.Mathlib.Omega.{arith}
 use native.Mathlib.Decide.{dec_le}
 use native.Mathlib.Nat.{zero-mul, suc-mul}
-use native.Mathlib.Numerals.{add_one}
+use native.Mathlib.Numerals.{add-one}
 use lib.Dec.{eqb, ltb, leb}
-use lib.ListN.{length, drop, get_or, set, length_append}
+use lib.ListN.{length, drop, get_or, set, length-append}
 use lib.Seq.{sets, drop-cons, get_or-set_other}
-use borrow.Author.Tests.{le-leb, lt-leb, lt-ltb, le-ltb, ltb-true, ltb-false, eq-eqb, ne_eqb, eqb-true, eqb_false}
+use borrow.Author.Tests.{le-leb, lt-leb, lt-ltb, le-ltb, ltb-true, ltb-false, eq-eqb, ne_eqb, eqb-true, eqb-false}
 use Rattle.sets.specs.Twins.Copying.{any_cell}
 use Rattle.sets.specs.Twins.Fill.{FillAnswer, fill_answer, spread}
 use Rattle.sets.specs.declared.fill.Filled.{Filled}
@@ -57,7 +57,7 @@ run_drop zero i h l = let e : i + 0 ≡ i = omega arith in rw e
 run_drop (suc n) i h l =
     let e : i + suc n ≡ i + 1 + n = omega arith in
     let r : drop (i + 1) h ≡ cells_at n (i + 1) h ++ drop (i + 1 + n) h = run_drop n (i + 1) h (omega arith) in
-    drop-cons h i 0 (omega arith) ∙ ap (λ (k : List ℕ). get_or h i 0 ∷ k) (ap (λ (k : ℕ). drop k h) (inv (add_one i)) ∙ r ∙ ap (λ (k : ℕ). cells_at n (i + 1) h ++ drop k h) (inv e))
+    drop-cons h i 0 (omega arith) ∙ ap (λ (k : List ℕ). get_or h i 0 ∷ k) (ap (λ (k : ℕ). drop k h) (inv (add-one i)) ∙ r ∙ ap (λ (k : ℕ). cells_at n (i + 1) h ++ drop k h) (inv e))
 
 pub cells_split : (m n i : ℕ) (h : List ℕ) → cells_at (m + n) i h ≡ cells_at m i h ++ cells_at n (i + m) h
 unfolding cells_at
@@ -129,7 +129,7 @@ size_end x size i end g l = rw (run_end i end g l)
 pub size_is : (x : ℕ) (v s : List ℕ) → length (spread x v s) ≡ spread_size x (length v) s
 unfolding spread_size
 size_is x v [] = refl
-size_is x v (c ∷ s) = length_append (cond (eqb c x) v (c ∷ [])) (spread x v s) ∙ ap₂ ◌+◌ (pick (eqb c x)) (size_is x v s)
+size_is x v (c ∷ s) = length-append (cond (eqb c x) v (c ∷ [])) (spread x v s) ∙ ap₂ ◌+◌ (pick (eqb c x)) (size_is x v s)
   where
     pick : (b : Bool) → length (cond b v (c ∷ [])) ≡ cond b (length v) 1
     pick true = refl
@@ -415,7 +415,7 @@ first_from x v size (suc n) i end h e = pick (eqb (get_or h i 0) x) refl (first_
     }
     pick false u f =
         let j = first_in x n (i + 1) h in
-        let o = eqb_false (get_or h i 0) x u in
+        let o = eqb-false (get_or h i 0) x u in
         record {
           least = omega (arith, f.least);
           most = f.most;

@@ -2,10 +2,10 @@
 use Prim.Native.Nat.{ℕ, suc, ◌+◌, ◌%◌, ◌≤◌, ◌<◌}
 use mathlib.Core.Path.{◌≡◌, refl, ap, ap₂, ◌∙◌, sym as inv}
 use mathlib.Core.Bool.{Bool, true, false, cond, ◌||◌, false≢true}
-use mathlib.Core.List.{List, [], ◌∷◌, ◌++◌, append_assoc, append_nil, map, map_append}
+use mathlib.Core.List.{List, [], ◌∷◌, ◌++◌, append_assoc, append-nil, map, map-append}
 use native.Mathlib.Omega.{arith}
 use lib.Dec.{eqb}
-use lib.ListN.{length, length_append, length-map}
+use lib.ListN.{length, length-append, length-map}
 use borrow.Author.Tests.{eq-eqb, ne_eqb}
 use Rattle.expressions.specs.Expression.{sym, avar, Exp, atm, evar, pair, nodes, nodes_all}
 use Rattle.expressions.specs.Substitution.{ground_exp, ground_all}
@@ -85,7 +85,7 @@ module _ (v : Exp) (told : Told v) where
     where
       pick : (b : Bool) → cond b (map code ws) (map code ws ++ (code v ∷ [])) ≡ map code (cond b ws (ws ++ (v ∷ [])))
       pick true = refl
-      pick false = inv (map_append code ws (v ∷ []))
+      pick false = inv (map-append code ws (v ∷ []))
 
 -- the variables of a tree's cells are the variables of the tree
 seen_exp : (c : Exp) (ws : List Exp) (q : List ℕ) → seen (map code ws) (cells c ++ q) ≡ seen (map code (variables_of c ws)) q
@@ -120,13 +120,13 @@ module _ (vs : List Exp) where
   filled_exp (evar n) h = ap (λ (k : ℕ). k ∷ []) (filled_variable (evar n) (evar_told n) (evar_leaf n) h.0)
   filled_exp (pair c d) h =
       let k = found_split (map code vs) (cells c) (cells d) h.1 in
-      ap (λ (l : List ℕ). pair_code ∷ l) (map_append (filled (map code vs)) (cells c) (cells d) ∙ ap₂ ◌++◌ (filled_exp c k.0) (filled_exp d k.1))
+      ap (λ (l : List ℕ). pair_code ∷ l) (map-append (filled (map code vs)) (cells c) (cells d) ∙ ap₂ ◌++◌ (filled_exp c k.0) (filled_exp d k.1))
 
   filled_all : (cs : List Exp) → All (Found (map code vs)) (cells_all cs) → map (filled (map code vs)) (cells_all cs) ≡ cells_all (map embed (ground_all (sampling vs) cs))
   filled_all [] h = refl
   filled_all (c ∷ cs) h =
       let k = found_split (map code vs) (cells c) (cells_all cs) h in
-      map_append (filled (map code vs)) (cells c) (cells_all cs) ∙ ap₂ ◌++◌ (filled_exp c k.0) (filled_all cs k.1)
+      map-append (filled (map code vs)) (cells c) (cells_all cs) ∙ ap₂ ◌++◌ (filled_exp c k.0) (filled_all cs k.1)
 
 -- a cell for each of its nodes
 sampled_nodes : (vs : List Exp) (c : Exp) → nodes (embed (ground_exp (sampling vs) c)) ≡ nodes c
@@ -156,11 +156,11 @@ module _ (c : IOPair) where
   line = cells_all c.ins ++ cells c.out
 
   line_nodes_lem : length line ≡ nodes_io c
-  line_nodes_lem = omega (arith, length_append (cells_all c.ins) (cells c.out), cells_all_nodes c.ins, cells_nodes c.out)
+  line_nodes_lem = omega (arith, length-append (cells_all c.ins) (cells c.out), cells_all_nodes c.ins, cells_nodes c.out)
 
   line_variables : seen [] line ≡ map code (variables c)
   line_variables =
-      seen_all c.ins [] (cells c.out) ∙ ap (seen (map code (variables_of_all c.ins []))) (inv (append_nil (cells c.out)))
+      seen_all c.ins [] (cells c.out) ∙ ap (seen (map code (variables_of_all c.ins []))) (inv (append-nil (cells c.out)))
       ∙ seen_exp c.out (variables_of_all c.ins []) []
 
   line_found : All (Found (map code (variables c))) (cells_all c.ins) × All (Found (map code (variables c))) (cells c.out)
@@ -168,7 +168,7 @@ module _ (c : IOPair) where
 
   line_filled : map (filled (map code (variables c))) line ≡ cells_all (map embed (sample c).ins) ++ cells (embed (sample c).out)
   line_filled =
-      map_append (filled (map code (variables c))) (cells_all c.ins) (cells c.out)
+      map-append (filled (map code (variables c))) (cells_all c.ins) (cells c.out)
       ∙ ap₂ ◌++◌ (filled_all (variables c) c.ins line_found.0) (filled_exp (variables c) c.out line_found.1)
 
   pub fill_means : (r : List ℕ) → nodes_io c ≤ 4096 →

@@ -2,12 +2,12 @@
 use Prim.Native.Nat.{ℕ, suc, ◌+◌, ◌%◌, ◌≤◌, min}
 use mathlib.Core.Path.{◌≡◌, refl, ap, ap₂, ◌∙◌, sym as inv}
 use mathlib.Core.Bool.{Bool, true, false, cond, ◌||◌, not, true≢false, false≢true}
-use mathlib.Core.List.{List, [], ◌∷◌, ◌++◌, append_assoc, map, map_append}
+use mathlib.Core.List.{List, [], ◌∷◌, ◌++◌, append_assoc, map, map-append}
 use native.Mathlib.Omega.{arith}
 use lib.Dec.{eqb}
-use lib.ListN.{length, get_or, length_append, length-map}
+use lib.ListN.{length, get_or, length-append, length-map}
 use lib.Seq.{append_snoc, get_or_at}
-use borrow.Author.Tests.{eqb-true, eqb_false, eq-eqb, ne_eqb}
+use borrow.Author.Tests.{eqb-true, eqb-false, eq-eqb, ne_eqb}
 use Rattle.expressions.proofs.Predicates.{All}
 use Rattle.sets.specs.Twins.Fill.{renamed}
 use Rattle.samples.specs.Twins.Filling.{is_variable, new_code, sampled_from, sampled_cells}
@@ -74,7 +74,7 @@ module _ (vs : List ℕ) (x : ℕ) (var : is_variable x ≡ true) where
       last : (b : Bool) → eqb x c ≡ b → (b ≡ true → place_among c (vs ++ (x ∷ [])) ≡ length vs) →
           cond (eqb c x) (new_code (length vs)) c ≡ cond b (new_code (place_among c (vs ++ (x ∷ [])))) c
       last true e h = ap (λ (t : Bool). cond t (new_code (length vs)) c) (eq-eqb c x (inv (eqb-true x c e))) ∙ ap new_code (inv (h refl))
-      last false e h = ap (λ (t : Bool). cond t (new_code (length vs)) c) (ne_eqb c x (λ q. eqb_false x c e (inv q)))
+      last false e h = ap (λ (t : Bool). cond t (new_code (length vs)) c) (ne_eqb c x (λ q. eqb-false x c e (inv q)))
 
       pick : (b : Bool) → is_variable c ≡ b → (u : Bool) → among c vs ≡ u →
           (let d = cond b (cond u (new_code (place_among c vs)) c) c in cond (eqb d x) (new_code (length vs)) d)
@@ -100,7 +100,7 @@ module _ (r : List ℕ) where
 
   state_at_lem : (vs p : List ℕ) (c : ℕ) (q : List ℕ) (i : ℕ) → length p ≡ i → get_or (state vs (p ++ (c ∷ q))) i 0 ≡ filled vs c
   state_at_lem vs p c q i e =
-      ap (λ (l : List ℕ). get_or (l ++ r) i 0) (map_append (filled vs) p (c ∷ q))
+      ap (λ (l : List ℕ). get_or (l ++ r) i 0) (map-append (filled vs) p (c ∷ q))
       ∙ ap (λ (l : List ℕ). get_or l i 0) (append_assoc (map (filled vs) p) (filled vs c ∷ map (filled vs) q) r)
       ∙ get_or_at (map (filled vs) p) (filled vs c) (map (filled vs) q ++ r) 0 i (length-map p (filled vs) ∙ e)
 
@@ -108,7 +108,7 @@ module _ (r : List ℕ) where
       sampled_from n left i k (state vs (p ++ q)) ≡ state (seen vs q) (p ++ q)
   sampled_seen [] p vs n i left k a b d e = sampled_none n i k (state vs (p ++ [])) left (inv d)
   sampled_seen (c ∷ q) p vs n i left k a b d e =
-      pick (is_variable c) refl (among c vs) refl (λ ws j h. next ws j h (sampled_seen q (p ++ (c ∷ [])) ws n (i + 1) (length q) j (ap length (append_snoc p c q) ∙ a) (length_append p (c ∷ []) ∙ ap (λ (m : ℕ). m + 1) b) refl h))
+      pick (is_variable c) refl (among c vs) refl (λ ws j h. next ws j h (sampled_seen q (p ++ (c ∷ [])) ws n (i + 1) (length q) j (ap length (append_snoc p c q) ∙ a) (length-append p (c ∷ []) ∙ ap (λ (m : ℕ). m + 1) b) refl h))
     where
       here : get_or (state vs (p ++ (c ∷ q))) i 0 ≡ filled vs c
       here = state_at_lem vs p c q i b
@@ -133,7 +133,7 @@ module _ (r : List ℕ) where
       pick true x false y again =
           sampled_variable n i k (state vs (p ++ (c ∷ q))) left (length q) (inv d) (ap is_variable at ∙ x)
           ∙ ap (sampled_from n (length q) (i + 1) (k + 1)) made
-          ∙ again (vs ++ (c ∷ [])) (k + 1) (length_append vs (c ∷ []) ∙ ap (λ (m : ℕ). m + 1) e)
+          ∙ again (vs ++ (c ∷ [])) (k + 1) (length-append vs (c ∷ []) ∙ ap (λ (m : ℕ). m + 1) e)
         where
           at : get_or (state vs (p ++ (c ∷ q))) i 0 ≡ c
           at = here ∙ ap₂ (λ (t u : Bool). cond t (cond u (new_code (place_among c vs)) c) c) x y
@@ -185,4 +185,4 @@ seen_few (c ∷ q) vs = let h = seen_few q (cond (is_variable c) (cond (among c 
     one : (t u : Bool) → length (cond t (cond u vs (vs ++ (c ∷ []))) vs) ≤ suc (length vs)
     one false u = omega arith
     one true true = omega arith
-    one true false = omega (arith, length_append vs (c ∷ []))
+    one true false = omega (arith, length-append vs (c ∷ []))

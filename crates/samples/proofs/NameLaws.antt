@@ -4,12 +4,12 @@ use mathlib.Core.Path.{◌≡◌, refl, ap, ◌∙◌, sym as inv}
 use mathlib.Core.Bool.{Bool, true, false, cond, ◌&&◌, ◌||◌, not}
 use mathlib.Core.List.{List, [], ◌∷◌, ◌++◌, map}
 use native.Mathlib.Omega.{arith}
-use native.Mathlib.Numerals.{add_one}
+use native.Mathlib.Numerals.{add-one}
 use native.Mathlib.Decide.{ℕ_discrete}
 use lib.Dec.{eqb}
-use lib.ListN.{length, get_or, set, take, drop, replicate, length-set, length_append, length-map, length-replicate, get_or-replicate, drop_of_length-le, get_or-append, get_or-eq_default}
+use lib.ListN.{length, get_or, set, take, drop, replicate, length-set, length-append, length-map, length-replicate, get_or-replicate, drop_of_length-le, get_or-append, get_or-eq_default}
 use lib.Seq.{drop-cons, get_or-set_same, get_or-set_other, get_or-append-add, get_or-take, length-take-le, take-nil}
-use borrow.Author.Tests.{eqb-true, eqb_false, ne_eqb}
+use borrow.Author.Tests.{eqb-true, eqb-false, ne_eqb}
 use Rattle.language.specs.Words.{Word}
 use Rattle.language.specs.Tokens.{is_among}
 use Rattle.lexer.specs.Twins.Table.{word_in}
@@ -55,7 +55,7 @@ marked_test (w ∷ ws) t n l h k =
         ap (λ (b : Bool). b && not (is_among (name_q n) (unquoted ws))) (ne_eqb (get_or (set t (number_of w) 1) n 0) 0 (λ z. omega (arith, marked (eqb-true (number_of w) n e))))
         ∙ inv (none (eqb (get_or t n 0) 0))
     go false e =
-        ap (λ (m : ℕ). eqb m 0 && not (is_among (name_q n) (unquoted ws))) (get_or-set_other t (number_of w) n 1 0 (λ z. eqb_false (number_of w) n e (inv z)))
+        ap (λ (m : ℕ). eqb m 0 && not (is_among (name_q n) (unquoted ws))) (get_or-set_other t (number_of w) n 1 0 (λ z. eqb-false (number_of w) n e (inv z)))
 
 -- what is copied and written keeps the table's length, and no cell before it changes
 copied_length : (symbols : List ℕ) (left i : ℕ) (table : List ℕ) → length (copied_from symbols left i table) ≡ length table
@@ -112,7 +112,7 @@ module _ (taken : List ℕ) where
     unfolding free_from
     free_at zero n at k table l h few room = absurd (omega arith)
     free_at (suc left) n at k table l h few room =
-        rw (told n l (omega arith), add_one n) (go (is_among (name_q n) ns) k few room (λ b i u e f. free_at left (suc n) b i u (omega arith) (omega arith) e f))
+        rw (told n l (omega arith), add-one n) (go (is_among (name_q n) ns) k few room (λ b i u e f. free_at left (suc n) b i u (omega arith) (omega arith) e f))
       where
         go : (a : Bool) (k : ℕ) → k < length (cond a (free_numbers ns left (suc n)) (n ∷ free_numbers ns left (suc n))) → at + k < length table →
             ((b i : ℕ) (u : List ℕ) → i < length (free_numbers ns left (suc n)) → b + i < length u → get_or (free_from taken left (suc n) b u) (b + i) 0 ≡ get_or (free_numbers ns left (suc n)) i 0) →
@@ -159,7 +159,7 @@ module _ (program job symbols : List ℕ) (ws : List Word) (size : length symbol
   marked_words_lem zero k taken e = let h : length ws ≤ k = omega arith in rw (drop_of_length-le ws h)
   marked_words_lem (suc left) k taken e =
       let h : k < length ws = omega arith in
-      rw (drop-cons ws k [] h, words k h, add_one k) (marked_words_lem left (suc k) (set taken (number_of (get_or ws k [])) 1) (omega arith))
+      rw (drop-cons ws k [] h, words k h, add-one k) (marked_words_lem left (suc k) (set taken (number_of (get_or ws k [])) 1) (omega arith))
 
   marked_free : (count room n : ℕ) → count ≡ length ws → n < room → 1 ≤ n → n ≤ 5120 →
       eqb (get_or (marked_from program job symbols count 0 (replicate room 0)) n 0) 0 ≡ not (is_among (name_q n) (unquoted ws))
@@ -208,7 +208,7 @@ module _ (program job symbols : List ℕ) (ws : List Word) (size : length symbol
         named tries rest e in-few =
             let ns = unquoted ws in
             let more = free_more ns tries rest 1 in
-            let in_all : k < length (free_numbers ns (tries + rest) 1) = omega (arith, ap length more, length_append (free_numbers ns tries 1) (free_numbers ns rest (1 + tries))) in
+            let in_all : k < length (free_numbers ns (tries + rest) 1) = omega (arith, ap length more, length-append (free_numbers ns tries 1) (free_numbers ns rest (1 + tries))) in
             padded_behind 1024 ns (free_names ns tries 1) k
             ∙ named_at (free_numbers ns tries 1) k in-few
             ∙ ap name_q (inv (free_cell (tries + rest) k e in_all (omega arith) ∙ ap (λ (l : List ℕ). get_or l k 0) more ∙ get_or-append (free_numbers ns tries 1) (free_numbers ns rest (1 + tries)) 0 k in-few))

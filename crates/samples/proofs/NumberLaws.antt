@@ -6,7 +6,7 @@ use mathlib.Core.List.{[], ◌∷◌}
 use native.Mathlib.Omega.{arith}
 use lib.Dec.{eqb, leb, ltb}
 use lib.ListN.{length, drop}
-use borrow.Author.Tests.{eqb-true, eqb_false, eq-eqb, le-ltb, ltb-false, le-leb}
+use borrow.Author.Tests.{eqb-true, eqb-false, eq-eqb, le-ltb, ltb-false, le-leb}
 use Rattle.language.specs.Words.{Word, same, is_numeral, numeral_fit, fits, long, broken, value}
 use Rattle.words.specs.Twins.Marks.{fit_number}
 use Rattle.words.specs.Twins.Judged.{value_cell}
@@ -72,7 +72,7 @@ number_test w n l h = go (eqb (number_of w) n) refl (same (drop 1 w) (name_q n))
     go : (s : Bool) → eqb (number_of w) n ≡ s → (t : Bool) → same (drop 1 w) (name_q n) ≡ t → t ≡ s
     go true e true f = refl
     go true e false f = absurd (true≢false (inv (same_self (name_q n)) ∙ ap (λ (v : Word). same v (name_q n)) (inv (number_sound w n (eqb-true (number_of w) n e) l)) ∙ f))
-    go false e true f = absurd (eqb_false (number_of w) n e (number_complete w n l h (same_word (drop 1 w) (name_q n) f)))
+    go false e true f = absurd (eqb-false (number_of w) n e (number_complete w n l h (same_word (drop 1 w) (name_q n) f)))
     go false e false f = refl
 
 -- different numbers, different names

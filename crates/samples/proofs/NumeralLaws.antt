@@ -2,11 +2,11 @@
 use Prim.Native.Nat.{ℕ, zero, suc, ◌+◌, ◌-◌, ◌*◌, ◌/◌, ◌%◌, ◌≤◌, ◌<◌}
 use mathlib.Core.Path.{◌≡◌, refl, ap, ap₂, ◌∙◌, sym as inv}
 use mathlib.Core.Bool.{Bool, true, false, cond, ◌&&◌, ◌||◌, not, false≢true}
-use mathlib.Core.List.{[], ◌∷◌, ◌++◌, append_nil}
+use mathlib.Core.List.{[], ◌∷◌, ◌++◌, append-nil}
 use native.Mathlib.Omega.{arith}
 use native.Mathlib.Decide.{dec_lt, ℕ_discrete}
 use lib.Dec.{eqb, leb}
-use lib.ListN.{length, length_append}
+use lib.ListN.{length, length-append}
 use lib.Seq.{append_snoc}
 use borrow.Author.Tests.{leb-true, eq-eqb, ne_eqb}
 use Rattle.expressions.proofs.Tests.{and_both}
@@ -92,7 +92,7 @@ digits_numeral n l =
 
 -- at most four digits
 digit_more : (d n : ℕ) → 10 ≤ n → length (digits (n / 10)) ≤ d → length (digits n) ≤ suc d
-digit_more d n h l = omega (arith, ap length (digits_more n h), length_append (digits (n / 10)) ((48 + n % 10) ∷ []))
+digit_more d n h l = omega (arith, ap length (digits_more n h), length-append (digits (n / 10)) ((48 + n % 10) ∷ []))
 
 digit_one : (n : ℕ) → n < 10 → length (digits n) ≤ 1
 digit_one n h = omega (arith, ap length (digits_one n h))
@@ -109,7 +109,7 @@ digits_few n h = digits_within_lem 2 1000 (digits_within_lem 1 100 (digits_withi
 
 -- a numeral that does not begin with a nought, behind digits that come to v
 digits_value_from : (w : Word) (v : ℕ) → 1 ≤ v → all_digits w ≡ true → digits (value_from v w) ≡ digits v ++ w
-digits_value_from [] v l e = inv (append_nil (digits v))
+digits_value_from [] v l e = inv (append-nil (digits v))
 digits_value_from (b ∷ w) v l e =
     let x = and_both (is_digit (byte_kind b)) (all_digits w) e in
     let r = digit_range b x.0 in

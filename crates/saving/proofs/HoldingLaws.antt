@@ -1,9 +1,9 @@
 -- A storage that holds records: those up to one of them, the last one, and one more.
 use Prim.Native.Nat.{ℕ, zero, suc, ◌+◌, ◌-◌, ◌*◌, ◌≤◌, ◌<◌}
 use mathlib.Core.Path.{◌≡◌, refl, ap, ◌∙◌, sym as inv}
-use mathlib.Core.List.{List, [], ◌∷◌, ◌++◌, append_assoc, append_nil}
+use mathlib.Core.List.{List, [], ◌∷◌, ◌++◌, append_assoc, append-nil}
 use native.Mathlib.Omega.{arith}
-use lib.ListN.{length, take, drop, get_or, length_append, length-drop, take-append-drop}
+use lib.ListN.{length, take, drop, get_or, length-append, length-drop, take-append-drop}
 use lib.Seq.{take-suc, split_at, take_all}
 use Rattle.saving.specs.Twins.Heads.{used_at, begins_at}
 use Rattle.saving.specs.Twins.Saving.{size_of, stored, load_left, loaded}
@@ -22,7 +22,7 @@ records_more r rs = refl
 
 pub records_one : (r : Record) → records_cells (r ∷ []) ≡ record_cells r
 unfolding records_cells
-records_one r = append_nil (record_cells r)
+records_one r = append-nil (record_cells r)
 
 pub records_snoc : (rs : List Record) (r : Record) → records_cells (rs ++ (r ∷ [])) ≡ records_cells rs ++ record_cells r
 records_snoc rs r = records_append rs (r ∷ []) ∙ ap (λ (l : List ℕ). records_cells rs ++ l) (records_one r)
@@ -55,7 +55,7 @@ top_of rs k = length (records_cells (take k rs))
 
 module _ {s : List ℕ} {top : ℕ} {rs : List Record} (x : Holding s top rs) where
   pub holding_low : top ≤ 16384
-  holding_low = omega (arith, x.size, x.whole, ap length x.is, length_append (records_cells rs) x.rest)
+  holding_low = omega (arith, x.size, x.whole, ap length x.is, length-append (records_cells rs) x.rest)
 
   pub holding_all : top_of rs (length rs) ≡ top
   holding_all = ap (λ (l : List Record). length (records_cells l)) (take_all (length rs) rs (omega arith)) ∙ inv x.size
@@ -76,11 +76,11 @@ module _ {s : List ℕ} {top : ℕ} {rs : List Record} (x : Holding s top rs) wh
 
     next_top : top_of rs (suc k) ≡ top_of rs k + length (record_cells (get_or rs k d))
     next_top =
-        ap length (ap records_cells (take-suc rs k d in-rs) ∙ records_snoc (take k rs) (get_or rs k d)) ∙ length_append (records_cells (take k rs)) (record_cells (get_or rs k d))
+        ap length (ap records_cells (take-suc rs k d in-rs) ∙ records_snoc (take k rs) (get_or rs k d)) ∙ length-append (records_cells (take k rs)) (record_cells (get_or rs k d))
 
     next_low : top_of rs (suc k) ≤ 16384
     next_low =
-        omega (arith, next_top, ap length stands_at, x.whole, length_append (records_cells (take k rs)) (record_cells (get_or rs k d) ++ others), length_append (record_cells (get_or rs k d)) others)
+        omega (arith, next_top, ap length stands_at, x.whole, length-append (records_cells (take k rs)) (record_cells (get_or rs k d) ++ others), length-append (record_cells (get_or rs k d)) others)
 
     pub top_grows : top_of rs k < top_of rs (suc k)
     top_grows = omega (arith, next_top, record_length (get_or rs k d) (fit_at k d x.fits in-rs))
@@ -110,20 +110,20 @@ pub store_means : {s : List ℕ} {top : ℕ} {rs : List Record} → Holding s to
 store_means {s} {top} {rs} x f q n ok room =
     let r = record_of f q n in
     let left = drop (size_of n) x.rest in
-    let l = length_append (records_cells rs) x.rest in
+    let l = length-append (records_cells rs) x.rest in
     let fits_in : size_of n ≤ length x.rest = omega (arith, x.size, x.whole, ap length x.is) in
     let e : stored f q n top s ≡ records_cells rs ++ (record_cells r ++ left) =
     ap (stored f q n top) x.is ∙ store_is f q n ok (records_cells rs) x.rest top (inv x.size) (holding_low x) fits_in in
     record {
       rest = left;
       is = e ∙ inv (append_assoc (records_cells rs) (record_cells r) left) ∙ ap (λ (l : List ℕ). l ++ left) (inv (records_snoc rs r));
-      size = omega (arith, x.size, record_size r ok, ap length (records_snoc rs r), length_append (records_cells rs) (record_cells r));
+      size = omega (arith, x.size, record_size r ok, ap length (records_snoc rs r), length-append (records_cells rs) (record_cells r));
       whole =
           omega (
             arith,
             ap length e,
-            length_append (records_cells rs) (record_cells r ++ left),
-            length_append (record_cells r) left,
+            length-append (records_cells rs) (record_cells r ++ left),
+            length-append (record_cells r) left,
             record_size r ok,
             x.whole,
             ap length x.is,
@@ -139,7 +139,7 @@ module _ {s : List ℕ} {top : ℕ} (rs : List Record) (r : Record) (x : Holding
   last_is = x.is ∙ ap (λ (l : List ℕ). l ++ x.rest) (records_snoc rs r) ∙ append_assoc (records_cells rs) (record_cells r) x.rest
 
   last_ends : top ≡ length (records_cells rs) + length (record_cells r)
-  last_ends = x.size ∙ ap length (records_snoc rs r) ∙ length_append (records_cells rs) (record_cells r)
+  last_ends = x.size ∙ ap length (records_snoc rs r) ∙ length-append (records_cells rs) (record_cells r)
 
   pub used_means : used_at s top ≡ r.at.used
   used_means = used_is s (records_cells rs) x.rest r (fit_last rs r x.fits) last_is top last_ends (holding_low x)
@@ -153,12 +153,12 @@ module _ {s : List ℕ} {top : ℕ} (rs : List Record) (r : Record) (x : Holding
   pub load_frame : (f q : List ℕ) → length f ≡ 12360 → length q ≡ 4096 → length (loaded s top f q).frame ≡ 12360
   load_frame f q frame qs =
       let y = fit_last rs r x.fits in
-      rw (load_means f q frame qs) (omega (arith, length_append r.entries (drop (3 * r.at.entries) f), length-drop (3 * r.at.entries) f, y.entries, y.in_frame))
+      rw (load_means f q frame qs) (omega (arith, length-append r.entries (drop (3 * r.at.entries) f), length-drop (3 * r.at.entries) f, y.entries, y.in_frame))
 
   pub load_sides : (f q : List ℕ) → length f ≡ 12360 → length q ≡ 4096 → length (loaded s top f q).q ≡ 4096
   load_sides f q frame qs =
       let y = fit_last rs r x.fits in
-      rw (load_means f q frame qs) (omega (arith, length_append r.sides (drop (2 * r.at.neqs) q), length-drop (2 * r.at.neqs) q, y.sides, y.in_q))
+      rw (load_means f q frame qs) (omega (arith, length-append r.sides (drop (2 * r.at.neqs) q), length-drop (2 * r.at.neqs) q, y.sides, y.in_q))
 
   -- .. and what is held without it
   pub load_holding : Holding s (length (records_cells rs)) rs

@@ -3,7 +3,7 @@ use Prim.Native.Nat.{ℕ, ◌+◌, ◌-◌, ◌*◌, ◌≤◌, ◌<◌, min}
 use mathlib.Core.Path.{◌≡◌, refl, ap, ◌∙◌, sym as inv}
 use mathlib.Core.List.{List, ◌++◌, append_assoc}
 use native.Mathlib.Omega.{arith}
-use lib.ListN.{length, take, drop, get_or, length_append, length-take, length-drop}
+use lib.ListN.{length, take, drop, get_or, length-append, length-take, length-drop}
 use lib.Seq.{take_at, drop_at, drop-append-add, drop-drop, get_or-append-add}
 use Rattle.sets.specs.Twins.Copying.{CopyAnswer, copied}
 use Rattle.sets.proofs.CellLaws.{copied_done}
@@ -16,7 +16,7 @@ use Rattle.saving.specs.declared.head.Node.{Node}
 copied_behind : (src p b r : List ℕ) (n at : ℕ) → take n src ≡ b → length b ≡ n → length p ≡ at → n ≤ length r → (copied src 0 n (p ++ r) at).cells ≡ p ++ (b ++ drop n r)
 copied_behind src p b r n at t l here room =
     let z : 0 + n ≤ length src = omega (arith, ap length t, length-take n src) in
-    let d : at + n ≤ length (p ++ r) = omega (arith, length_append p r) in
+    let d : at + n ≤ length (p ++ r) = omega (arith, length-append p r) in
     let k : at + n ≡ length p + n = omega arith in
     let v : drop (at + n) (p ++ r) ≡ drop n r = rw k (drop-append-add p r n) in
     ap (λ (w : CopyAnswer). w.cells) (copied_done src 0 n (p ++ r) at z d) ∙ rw (take_at p r at here, t, v) (append_assoc p b (drop n r))
@@ -24,7 +24,7 @@ copied_behind src p b r n at t l here room =
 -- .. and brought to the front of another storage
 copied_from_lem : (src dst p b r : List ℕ) (n i : ℕ) → src ≡ p ++ (b ++ r) → length p ≡ i → length b ≡ n → n ≤ length dst → (copied src i n dst 0).cells ≡ b ++ drop n dst
 copied_from_lem src dst p b r n i is here l room =
-    let z : i + n ≤ length src = omega (arith, ap length is, length_append p (b ++ r), length_append b r) in
+    let z : i + n ≤ length src = omega (arith, ap length is, length-append p (b ++ r), length-append b r) in
     let d : 0 + n ≤ length dst = omega arith in
     let k : 0 + n ≡ n = omega arith in
     let u : drop i src ≡ b ++ r = ap (drop i) is ∙ drop_at p (b ++ r) i here in
@@ -33,7 +33,7 @@ copied_from_lem src dst p b r n i is here l room =
 module _ (r : Record) (ok : Fits r) where
   pub record_length : length (record_cells r) ≡ 3 * r.at.entries + 2 * r.at.neqs + 9
   unfolding record_cells
-  record_length = omega (arith, length_append r.entries (r.sides ++ numbers_of r), length_append r.sides (numbers_of r), ok.entries, ok.sides)
+  record_length = omega (arith, length-append r.entries (r.sides ++ numbers_of r), length-append r.sides (numbers_of r), ok.entries, ok.sides)
 
   entries_counted : entry_cells r.at.entries ≡ 3 * r.at.entries
   entries_counted = omega (arith, ok.in_frame)
@@ -82,7 +82,7 @@ module _ (f q : List ℕ) (n : Node) (ok : Fits (record_of f q n)) (p rest : Lis
       let d = length-drop entries rest in
       rw (← (append_assoc p r.entries (drop entries rest)))
       (copied_behind q (p ++ r.entries) r.sides (drop entries rest) sides (min at 16384 + entries) (ap (λ (k : ℕ). take k q) e) (ok.sides ∙ inv e)
-      (omega (arith, length_append p r.entries, ok.entries, entries_counted r ok)) (omega arith))
+      (omega (arith, length-append p r.entries, ok.entries, entries_counted r ok)) (omega arith))
 
   abbrev left : List ℕ
   left = drop sides (drop entries rest)
@@ -93,7 +93,7 @@ module _ (f q : List ℕ) (n : Node) (ok : Fits (record_of f q n)) (p rest : Lis
       let c = length-drop entries rest in
       rw (← (append_assoc (p ++ r.entries) r.sides left), head_is r ok)
       (copied_behind (numbers_of r) ((p ++ r.entries) ++ r.sides) (numbers_of r) left 9 (min at 16384 + entries + sides) refl refl
-      (omega (arith, length_append (p ++ r.entries) r.sides, length_append p r.entries, ok.entries, ok.sides, entries_counted r ok, sides_counted r ok)) (omega arith))
+      (omega (arith, length-append (p ++ r.entries) r.sides, length-append p r.entries, ok.entries, ok.sides, entries_counted r ok, sides_counted r ok)) (omega arith))
 
   left_is : drop 9 left ≡ drop (size_of n) rest
   left_is = ap (drop 9) (drop-drop sides entries rest) ∙ drop-drop 9 (entries + sides) rest
@@ -125,10 +125,10 @@ module _ (s p rest : List ℕ) (r : Record) (ok : Fits r) (is : s ≡ p ++ (reco
   before = between ∙ inv (append_assoc (p ++ r.entries) r.sides (numbers_of r ++ rest))
 
   entries_end : length (p ++ r.entries) ≡ length p + 3 * r.at.entries
-  entries_end = omega (arith, length_append p r.entries, ok.entries)
+  entries_end = omega (arith, length-append p r.entries, ok.entries)
 
   sides_end : length ((p ++ r.entries) ++ r.sides) ≡ length p + 3 * r.at.entries + 2 * r.at.neqs
-  sides_end = omega (arith, length_append (p ++ r.entries) r.sides, entries_end, ok.sides)
+  sides_end = omega (arith, length-append (p ++ r.entries) r.sides, entries_end, ok.sides)
 
   head_place : head_start top ≡ length ((p ++ r.entries) ++ r.sides)
   head_place = omega (arith, sides_end, record_length r ok)

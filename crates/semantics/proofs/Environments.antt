@@ -5,7 +5,7 @@ use mathlib.Core.Path.{◌≡◌, refl, ap, subst, sym as inv}
 use mathlib.Core.Bool.{Bool, true, false, cond, not, false≢true}
 use mathlib.Core.List.{List, [], ◌∷◌, ◌++◌}
 use lib.Dec.{eqb}
-use borrow.Author.Tests.{eqb-true, eqb_false, ne_eqb, not-true}
+use borrow.Author.Tests.{eqb-true, eqb-false, ne_eqb, not-true}
 use Rattle.expressions.specs.Expression.{Value, atom, cons, AtomicExp, Exp, atm, evar, pair}
 use Rattle.expressions.specs.Substitution.{GroundSubst, ground_all}
 use Rattle.expressions.specs.Class.{GroundPair, IOClass, InClass}
@@ -23,7 +23,7 @@ update_here x v (b ∷ bs) = pick (eqb b.0 x) refl (update_here x v bs)
   where
     pick : (t : Bool) → eqb b.0 x ≡ t → Binds x v (update x v bs) → Binds x v (cond t ((x, v) ∷ bs) (b ∷ update x v bs))
     pick true e h = here bs
-    pick false e h = there b.0 b.1 (update x v bs) (eqb_false b.0 x e) h
+    pick false e h = there b.0 b.1 (update x v bs) (eqb-false b.0 x e) h
 
 pub update_there : {A : Type 0} {y : ℕ} {w : A} {bs : List (ℕ × A)} (x : ℕ) (v : A) → (x ≡ y → ⊥) → Binds y w bs → Binds y w (update x v bs)
 update_there {y} {w} x v n (here cs) = pick (eqb y x) refl
@@ -58,14 +58,14 @@ add_bound {A} x y v bs b = pick (eqb y x) refl
   where
     pick : (t : Bool) → eqb y x ≡ t → Bound x ((y, v) ∷ bs)
     pick true e = (v, subst (λ (z : ℕ). Binds {A = A} x v ((z, v) ∷ bs)) (inv (eqb-true y x e)) (here bs))
-    pick false e = let w = b e in (w.0, there y v bs (eqb_false y x e) w.1)
+    pick false e = let w = b e in (w.0, there y v bs (eqb-false y x e) w.1)
 
 pub update_bound : {A : Type 0} (x y : ℕ) (v : A) (bs : List (ℕ × A)) → (eqb y x ≡ false → Bound x bs) → Bound x (update y v bs)
 update_bound {A} x y v bs b = pick (eqb y x) refl
   where
     pick : (t : Bool) → eqb y x ≡ t → Bound x (update y v bs)
     pick true e = (v, subst (λ (z : ℕ). Binds z v (update y v bs)) (eqb-true y x e) (update_here y v bs))
-    pick false e = let w = b e in (w.0, update_there y v (eqb_false y x e) w.1)
+    pick false e = let w = b e in (w.0, update_there y v (eqb-false y x e) w.1)
 
 -- σ[x ↦ v] where x is not bound: it is added at the end
 pub update_new : {A : Type 0} (x : ℕ) (v : A) (bs : List (ℕ × A)) → Unbound x bs → update x v bs ≡ bs ++ ((x, v) ∷ [])
@@ -87,7 +87,7 @@ update_distinct x v (b ∷ bs) d = pick (eqb b.0 x) refl (update_distinct x v bs
   where
     pick : (t : Bool) → eqb b.0 x ≡ t → DistinctNames (update x v bs) → DistinctNames (cond t ((x, v) ∷ bs) (b ∷ update x v bs))
     pick true e h = (subst (λ (z : ℕ). Unbound z bs) (eqb-true b.0 x e) d.0, d.1)
-    pick false e h = (update_unbound x b.0 v bs (λ q. eqb_false b.0 x e (inv q)) d.0, h)
+    pick false e h = (update_unbound x b.0 v bs (λ q. eqb-false b.0 x e (inv q)) d.0, h)
 
 pub map_unbound : {A B : Type 0} (f : A → B) (x : ℕ) (bs : List (ℕ × A)) → Unbound x bs → Unbound x (map_values f bs)
 map_unbound f x [] u = tt
@@ -145,13 +145,13 @@ bind_inputs_bound (pa x ∷ ps) (cons u v ∷ vs) f = absurd f
 -- distinct parameters give distinct names
 unbound_e : {E A : Type 0} {ps : List Param} {σ : Env E A} (y : ℕ) → has_param (pe y) ps ≡ false → ParamsBound ps σ → Unbound y σ.evars
 unbound_e y e done = tt
-unbound_e y e (any x ps v σ b) = let w = or_none (eqb x y) (has_param (pe y) ps) e in (eqb_false x y w.0, unbound_e y w.1 b)
+unbound_e y e (any x ps v σ b) = let w = or_none (eqb x y) (has_param (pe y) ps) e in (eqb-false x y w.0, unbound_e y w.1 b)
 unbound_e y e (one x ps v σ b) = unbound_e y e b
 
 unbound_a : {E A : Type 0} {ps : List Param} {σ : Env E A} (y : ℕ) → has_param (pa y) ps ≡ false → ParamsBound ps σ → Unbound y σ.avars
 unbound_a y e done = tt
 unbound_a y e (any x ps v σ b) = unbound_a y e b
-unbound_a y e (one x ps v σ b) = let w = or_none (eqb x y) (has_param (pa y) ps) e in (eqb_false x y w.0, unbound_a y w.1 b)
+unbound_a y e (one x ps v σ b) = let w = or_none (eqb x y) (has_param (pa y) ps) e in (eqb-false x y w.0, unbound_a y w.1 b)
 
 pub params_distinct : {E A : Type 0} {ps : List Param} {σ : Env E A} → distinct_params ps ≡ true → ParamsBound ps σ → DistinctNames σ.evars × DistinctNames σ.avars
 params_distinct e done = (tt, tt)

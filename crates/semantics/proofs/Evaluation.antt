@@ -8,7 +8,7 @@ use mathlib.Core.Logic.{◌↔◌}
 use native.Mathlib.Omega.{arith}
 use native.Mathlib.Nat.{not-suc-le-zero, le_of_suc-le-suc}
 use lib.Dec.{eqb}
-use borrow.Author.Tests.{eqb-true, eqb_false, eq-eqb, ne_eqb}
+use borrow.Author.Tests.{eqb-true, eqb-false, eq-eqb, ne_eqb}
 use Rattle.expressions.specs.Expression.{Value, atom, cons, AtomicExp, sym, avar, Exp, atm, evar, pair}
 use Rattle.expressions.specs.Substitution.{ground_exp, ground_atomic}
 use Rattle.expressions.proofs.Tests.{and_both}
@@ -96,7 +96,7 @@ step_goes {p} (conditional (eqa x y) s t) {σ} w = let u = scoped_eqa w in
     pick : AtomOf σ x (ground_atomic (ground_of σ) (atom_of x)) → AtomOf σ y (ground_atomic (ground_of σ) (atom_of y)) → (b : Bool) →
         eqb (ground_atomic (ground_of σ) (atom_of x)) (ground_atomic (ground_of σ) (atom_of y)) ≡ b → Goes p (conditional (eqa x y) s t) σ (cond b (go s σ) (go t σ))
     pick vx vy true e = equal x y s t _ (subst (AtomOf σ x) (eqb-true _ _ e) vx) vy
-    pick vx vy false e = unequal x y s t _ _ vx vy (eqb_false _ _ e)
+    pick vx vy false e = unequal x y s t _ _ vx vy (eqb-false _ _ e)
 step_goes {p} (conditional (consp c h t x) s u) {σ} w = pick (ground_exp (ground_of σ) c) (value_of w.scope σ w.covers c (scoped_consp w))
   where
     pick : (v : Value) → ValueOf σ c v → Goes p (conditional (consp c h t x) s u) σ (step_pair h t x s u σ v)

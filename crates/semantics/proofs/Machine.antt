@@ -1,8 +1,8 @@
 -- The walk machine against the process tree: what it has found and what is still to come is the tree's listing.
 use Prim.Native.Nat.{ℕ, zero, suc, ◌+◌, ◌≤◌}
 use mathlib.Core.Path.{◌≡◌, refl, ap, ap₂, subst, ◌∙◌, sym as inv}
-use mathlib.Core.Bool.{Bool, true, false, cond, ◌||◌, false≢true, or_true, or_false, or_assoc}
-use mathlib.Core.List.{List, [], ◌∷◌, ◌++◌, append_assoc, append_nil}
+use mathlib.Core.Bool.{Bool, true, false, cond, ◌||◌, false≢true, or-true, or-false, or_assoc}
+use mathlib.Core.List.{List, [], ◌∷◌, ◌++◌, append_assoc, append-nil}
 use mathlib.Core.Option.{Option, none, some}
 use mathlib.Core.Logic.{◌↔◌}
 use native.Mathlib.Omega.{arith}
@@ -113,7 +113,7 @@ module _ (p : Prog) where
   taken_total i is r = listing_is refl refl (omega arith)
 
   pub at_start_lem : (t : Tree) → total_with t 0 at_start ≡ listing_of t
-  at_start_lem t = listing_is (append_nil (leaves_lines (leaves t))) (or_false (any_of (unfinished_nodes t))) (omega arith)
+  at_start_lem t = listing_is (append-nil (leaves_lines (leaves t))) (or-false (any_of (unfinished_nodes t))) (omega arith)
 
   module _ (lim : Limits) where
     -- an end
@@ -136,8 +136,8 @@ module _ (p : Prog) where
     expand_keeps : (n : ℕ) (x : Node) (S : Successors) (r : WalkState) → Keeps (total_with (tree_from p n x S) 0 r) (expand lim n x S r)
     unfolding tree_from
     expand_keeps zero x (terminal u) r = end_keeps x u r (intersect meeting_over (meeting_at x u)) refl
-    expand_keeps zero x (called c) r = listing_is refl (or_true r.cut) (omega arith)
-    expand_keeps zero x (branches a b) r = listing_is refl (or_true r.cut) (omega arith)
+    expand_keeps zero x (called c) r = listing_is refl (or-true r.cut) (omega arith)
+    expand_keeps zero x (branches a b) r = listing_is refl (or-true r.cut) (omega arith)
     expand_keeps (suc n) x (terminal u) r = end_keeps x u r (intersect meeting_over (meeting_at x u)) refl
     expand_keeps (suc n) x (called c) r = ap (found r) (call_also (tree p n (after_call x c)) (to_come r.todo) ∙ push_come n (after_call x c) r.todo)
     expand_keeps (suc n) x (branches a b) r =
@@ -259,9 +259,9 @@ module _ (p : Prog) where
   ended : (b : Listing) (w : Walked) → Finds b w → Unstopped (word_of w) → (lines_of w ≡ b.lines) × (count_of w ≡ b.count) × ((word_of w ≡ cut) ↔ (b.cut ≡ true))
   ended b (going r) f h =
       let e : b ≡ found r (to_come []) = f.1 ∙ ap (λ (is : List Untaken). found r (to_come is)) f.0 in (
-        inv (append_nil r.lines) ∙ inv (ap (λ (l : Listing). l.lines) e),
+        inv (append-nil r.lines) ∙ inv (ap (λ (l : Listing). l.lines) e),
         omega (arith, ap (λ (l : Listing). l.count) e),
-        cut_iff_lem r.cut b.cut (ap (λ (l : Listing). l.cut) e ∙ or_false r.cut),
+        cut_iff_lem r.cut b.cut (ap (λ (l : Listing). l.cut) e ∙ or-false r.cut),
       )
   ended b (stopped z r) f h = absurd h
 

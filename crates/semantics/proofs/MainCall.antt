@@ -4,7 +4,7 @@ use mathlib.Core.Path.{◌≡◌, refl, subst, sym as inv}
 use mathlib.Core.Bool.{Bool, true, false, ◌||◌, not, false≢true, true≢false}
 use mathlib.Core.List.{List, [], ◌∷◌}
 use mathlib.Core.Option.{Option, none, some}
-use borrow.Author.Tests.{eqb_false, eq-eqb, ne_eqb}
+use borrow.Author.Tests.{eqb-false, eq-eqb, ne_eqb}
 use lib.Dec.{eqb}
 use lib.ListN.{length}
 use Rattle.expressions.specs.Expression.{sym, Exp, atm}
@@ -48,7 +48,7 @@ neither true b e = absurd (true≢false e)
 neither false b e = (refl, e)
 
 turned : (x y : ℕ) → eqb y x ≡ false → eqb x y ≡ false
-turned x y e = ne_eqb x y (λ q. eqb_false y x e (inv q))
+turned x y e = ne_eqb x y (λ q. eqb-false y x e (inv q))
 
 -- another name changes nothing
 agrees_e : (x : ℕ) (d : Exp) (τ : ExpEnv) (ps : List Param) (ds : List Exp) → has_param (pe x) ps ≡ false → Agrees τ ps ds → Agrees (add_e x d τ) ps ds

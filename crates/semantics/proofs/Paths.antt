@@ -2,10 +2,10 @@
 use Prim.Native.Nat.{ℕ, zero, suc, ◌+◌, ◌≤◌}
 use mathlib.Core.Path.{◌≡◌, refl, ap, ◌∙◌, sym as inv}
 use mathlib.Core.Bool.{Bool, true, false, false≢true}
-use mathlib.Core.List.{List, [], ◌∷◌, ◌++◌, append_assoc, append_nil}
+use mathlib.Core.List.{List, [], ◌∷◌, ◌++◌, append_assoc, append-nil}
 use mathlib.Core.Option.{Option, none, some}
 use native.Mathlib.Omega.{arith}
-use lib.ListN.{length, length_append}
+use lib.ListN.{length, length-append}
 use Rattle.expressions.specs.Intersection.{Intersected, common, disjoint, tooLarge, intersect}
 use Rattle.language.specs.Program.{Prog}
 use Rattle.semantics.specs.Configuration.{Configuration}
@@ -17,10 +17,10 @@ use Rattle.semantics.proofs.Replay.{Along, replay_none, replay_call, replay_deci
 
 pub trail_length : (cs : List Choice) → length (trail_of cs) ≡ length cs
 trail_length [] = refl
-trail_length (c ∷ cs) = omega (arith, length_append (trail_of cs) (c.taken ∷ []), trail_length cs)
+trail_length (c ∷ cs) = omega (arith, length-append (trail_of cs) (c.taken ∷ []), trail_length cs)
 
 pub trail_append : (ds cs : List Choice) → trail_of (ds ++ cs) ≡ trail_of cs ++ trail_of ds
-trail_append [] cs = inv (append_nil (trail_of cs))
+trail_append [] cs = inv (append-nil (trail_of cs))
 trail_append (d ∷ ds) cs = ap (λ (bs : List Bool). bs ++ (d.taken ∷ [])) (trail_append ds cs) ∙ append_assoc (trail_of cs) (trail_of ds) (d.taken ∷ [])
 
 abbrev pub path_of : Turn → List Choice
@@ -80,7 +80,7 @@ module _ (p : Prog) (n : ℕ) (x : Node) where
   Turned v t = (machine_at t ≡ v) × AtTurn t
 
   pub first_placed : Placed (record { left = n; node = x }) []
-  first_placed = record { leads = λ b bs. refl; replays = tt; along = record { depth = refl; decisions = omega arith; trail = inv (append_nil x.trail) } }
+  first_placed = record { leads = λ b bs. refl; replays = tt; along = record { depth = refl; decisions = omega arith; trail = inv (append-nil x.trail) } }
 
   -- a choice is a step, so that a path has room for one more where a transition is left
   pub placed_length : {i : Untaken} (cs : List Choice) → Placed i cs → (length cs + x.steps ≤ i.node.steps) × (length cs + i.left ≤ n)
@@ -114,7 +114,7 @@ module _ (p : Prog) (n : ℕ) (x : Node) where
     replays = (f, h.replays);
     along = record {
       depth = omega (arith, h.along.depth);
-      decisions = omega (arith, length_append (trail_of cs) (q ∷ []), h.along.decisions);
+      decisions = omega (arith, length-append (trail_of cs) (q ∷ []), h.along.decisions);
       trail = ap (λ (l : List Bool). l ++ (q ∷ [])) h.along.trail ∙ append_assoc x.trail (trail_of cs) (q ∷ []);
     };
   }

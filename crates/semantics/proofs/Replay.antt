@@ -2,7 +2,7 @@
 use Prim.Native.Nat.{ℕ, zero, suc, ◌+◌, ◌≤◌}
 use mathlib.Core.Path.{◌≡◌, refl, ap, subst, ◌∙◌, sym as inv}
 use mathlib.Core.Bool.{Bool, true, false}
-use mathlib.Core.List.{List, [], ◌∷◌, ◌++◌, append_assoc, append_nil}
+use mathlib.Core.List.{List, [], ◌∷◌, ◌++◌, append_assoc, append-nil}
 use mathlib.Core.Option.{Option, none, some, bind}
 use native.Mathlib.Omega.{arith}
 use lib.ListN.{length}
@@ -78,7 +78,7 @@ module _ (p : Prog) where
 
   replay_along : (n : ℕ) (x : Node) (bs : List Bool) → OfOption (Along n x bs) (replay p n x bs)
   unfolding replay
-  replay_along n x [] = record { depth = refl; decisions = omega arith; trail = inv (append_nil x.trail) }
+  replay_along n x [] = record { depth = refl; decisions = omega arith; trail = inv (append-nil x.trail) }
   replay_along zero x (b ∷ bs) = tt
   replay_along (suc n) x (b ∷ bs) =
       next_along n (λ y. replay p n y (b ∷ bs)) (λ y. replay p n y bs) b bs (λ y. replay_along n y (b ∷ bs)) (λ y. replay_along n y bs) x (successors p x.conf)

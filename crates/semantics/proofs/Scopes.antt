@@ -7,7 +7,7 @@ use mathlib.Core.List.{List, [], ◌∷◌, ◌++◌, append_assoc}
 use native.Mathlib.Nat.{not-suc-le-zero, le_of_suc-le-suc}
 use lib.Dec.{eqb, ltb}
 use lib.ListN.{length, get_or}
-use borrow.Author.Tests.{eqb_false, lt-ltb, ltb-true, not-true}
+use borrow.Author.Tests.{eqb-false, lt-ltb, ltb-true, not-true}
 use Rattle.expressions.specs.Expression.{sym, avar, Exp, atm, evar, pair}
 use Rattle.expressions.proofs.Tests.{or_none, and_both, eqb_same}
 use Rattle.language.specs.Program.{eqa, consp, Term, call, conditional, result, Param, pe, pa, Def, Prog, find}
@@ -54,10 +54,10 @@ abbrev pub Only : {E A : Type 0} → Scope → Env E A → Type 0
 Only sc σ = NoOther sc.evars σ.evars × NoOther sc.avars σ.avars
 
 add_other : {A : Type 0} (y : ℕ) (v : A) (ns : List ℕ) (bs : List (ℕ × A)) → NoOther ns bs → NoOther (y ∷ ns) ((y, v) ∷ bs)
-add_other y v ns bs h x e = let w = or_none (eqb y x) (is_in x ns) e in (eqb_false y x w.0, h x w.1)
+add_other y v ns bs h x e = let w = or_none (eqb y x) (is_in x ns) e in (eqb-false y x w.0, h x w.1)
 
 update_other : {A : Type 0} (y : ℕ) (v : A) (ns : List ℕ) (bs : List (ℕ × A)) → NoOther ns bs → NoOther (y ∷ ns) (update y v bs)
-update_other y v ns bs h x e = let w = or_none (eqb y x) (is_in x ns) e in update_unbound y x v bs (eqb_false y x w.0) (h x w.1)
+update_other y v ns bs h x e = let w = or_none (eqb y x) (is_in x ns) e in update_unbound y x v bs (eqb-false y x w.0) (h x w.1)
 
 map_other : {A B : Type 0} (f : A → B) (ns : List ℕ) (bs : List (ℕ × A)) → NoOther ns bs → NoOther ns (map_values f bs)
 map_other f ns bs h x e = map_unbound f x bs (h x e)
@@ -193,7 +193,7 @@ module _ {E A : Type 0} {p : Prog} {σ : Env E A} where
   pair_added {c} {h} {t} {x} {s} {u} v₁ v₂ w =
       let n = scoped_new w in
       let sc = w.scope in
-      let d = eqb_false h t (not-true _ (and_four (in_scope sc c) (not (eqb h t)) (well_formed_term p (pair_scope h t sc) s) (well_formed_term p (with_a x sc) u) w.well_formed).1) in
+      let d = eqb-false h t (not-true _ (and_four (in_scope sc c) (not (eqb h t)) (well_formed_term p (pair_scope h t sc) s) (well_formed_term p (with_a x sc) u) w.well_formed).1) in
       update_new t v₂ (update h v₁ σ.evars) (update_unbound h t v₁ σ.evars d n.1) ∙ rw (update_new h v₁ σ.evars n.0) (append_assoc σ.evars ((h, v₁) ∷ []) ((t, v₂) ∷ []))
 
   pub atom_added : {c : Exp} {h t x : ℕ} {s u : Term} (z : A) → WellScoped p (conditional (consp c h t x) s u) σ → update x z σ.avars ≡ σ.avars ++ ((x, z) ∷ [])

@@ -2,7 +2,7 @@
 use Prim.Native.Nat.{ℕ, zero, suc, ◌+◌, ◌≤◌}
 use mathlib.Core.Path.{◌≡◌, refl, ap, ap₂, subst, ◌∙◌, sym as inv}
 use mathlib.Core.Bool.{Bool, true, false, ◌||◌}
-use mathlib.Core.List.{List, [], ◌∷◌, ◌++◌, append_assoc, append_nil}
+use mathlib.Core.List.{List, [], ◌∷◌, ◌++◌, append_assoc, append-nil}
 use mathlib.Core.Option.{Option, none, some}
 use mathlib.Core.Logic.{inl, inr, ◌↔◌}
 use native.Mathlib.Omega.{arith}
@@ -72,7 +72,7 @@ module _ (p : Prog) where
         passed = passed ++ (v ∷ []);
         passing = record {
           under = all_append Under passed (v ∷ []) P.under (o, tt);
-          lines = l ∙ ap₂ ◌++◌ P.lines (inv (append_nil (lines_at v))) ∙ inv (visits_lines_append passed (v ∷ []));
+          lines = l ∙ ap₂ ◌++◌ P.lines (inv (append-nil (lines_at v))) ∙ inv (visits_lines_append passed (v ∷ []));
           nodes = m;
           few = f;
         };
@@ -82,7 +82,7 @@ module _ (p : Prog) where
 
       -- with no line
       pass_on : (v : Visit) (q : WalkState) → vs ≡ passed ++ (v ∷ to_visit q.todo) → over_at v ≡ false → lines_at v ≡ [] → q.lines ≡ r.lines → q.nodes ≡ r.nodes → q.count ≡ r.count → Between q
-      pass_on v q e o l k m c = pass v q e o (k ∙ inv (append_nil r.lines) ∙ ap (λ (ls : List Line). r.lines ++ ls) (inv l)) (m ∙ P.nodes ∙ ap lines_nodes (inv k))
+      pass_on v q e o l k m c = pass v q e o (k ∙ inv (append-nil r.lines) ∙ ap (λ (ls : List Line). r.lines ++ ls) (inv l)) (m ∙ P.nodes ∙ ap lines_nodes (inv k))
           (subst (λ (ls : List Line). length ls ≤ lim.table) (inv k) P.few) c
 
       end_halts : (u : Exp) → vs ≡ passed ++ (visit_of x (terminal u) ∷ to_visit r.todo) → state_over x.conf.cr ≡ false → (I : Intersected) → intersect meeting_over (meeting_at x u) ≡ I →
@@ -175,7 +175,7 @@ module _ (p : Prog) where
 
     end_of : (r : WalkState) → Between r → r.todo ≡ [] → Ending r
     end_of r B e =
-        let k : B.passed ≡ vs = inv (append_nil B.passed) ∙ ap (λ (is : List Untaken). B.passed ++ to_visit is) (inv e) ∙ inv B.ahead in
+        let k : B.passed ≡ vs = inv (append-nil B.passed) ∙ ap (λ (is : List Untaken). B.passed ++ to_visit is) (inv e) ∙ inv B.ahead in
         record { under = subst (All Under) k B.passing.under; lines = B.passing.lines ∙ ap visits_lines k; count = ap length (inv k) ∙ B.count }
 
     then_halts : (v : ℕ) → ((r : WalkState) → Between r → Halted (r.count + v) (walk p lim v r)) →
@@ -232,7 +232,7 @@ module _ (p : Prog) (n : ℕ) (lim : Limits) where
   outcome_from (some c) = pick (walk_from p lim n (some c))
       (subst (λ (k : ℕ). Halted p lim vs k (walk_from p lim n (some c))) (let k : 0 + lim.walk ≡ lim.walk = omega arith in k)
       (then_halts p lim vs lim.walk (walk_halts p lim vs lim.walk) at_start (visit p lim i at_start) (visit_visited p lim i at_start)
-      (visit_halts p lim vs i at_start [] (record { under = tt; lines = refl; nodes = refl; few = omega arith }) refl (inv (append_nil vs)))))
+      (visit_halts p lim vs i at_start [] (record { under = tt; lines = refl; nodes = refl; few = omega arith }) refl (inv (append-nil vs)))))
     where
       vs : List Visit
       vs = visits_from p n (root c) (successors p c)

@@ -2,7 +2,7 @@
 use Prim.Native.Nat.{ℕ, suc, ◌+◌, ◌≤◌, ◌<◌}
 use mathlib.Core.Path.{◌≡◌, refl, ap, ap₂, subst, ◌∙◌, sym as inv}
 use mathlib.Core.Bool.{Bool, true, false, cond, false≢true}
-use mathlib.Core.List.{List, [], ◌∷◌, ◌++◌, append_nil}
+use mathlib.Core.List.{List, [], ◌∷◌, ◌++◌, append-nil}
 use mathlib.Core.Logic.{◌⊎◌, inl, inr, ◌↔◌}
 use native.Mathlib.Omega.{arith}
 use lib.Dec.{eqb}
@@ -141,7 +141,7 @@ module _ (p : Prog) (n : ℕ) (j : IOClass) (lim : Limits) where
     ended u k c = let h = I.ends u in record {
       passed = visits p n j;
       left = [];
-      split = inv (append_nil (visits p n j));
+      split = inv (append-nil (visits p n j));
       keeping = keeps (visits p n j) h.0 h.1 (transitions_short (visits p n j) lim.walk (omega (arith, h.2, I.within.0)));
       stuck = tt;
       word = k;

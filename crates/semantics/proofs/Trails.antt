@@ -2,7 +2,7 @@
 use Prim.Native.Nat.{ℕ, zero, suc, ◌+◌, ◌≤◌}
 use mathlib.Core.Path.{◌≡◌, refl, ap, subst, ◌∙◌, sym as inv}
 use mathlib.Core.Bool.{Bool, true, false}
-use mathlib.Core.List.{List, [], ◌∷◌, ◌++◌, map, append_assoc, append_nil}
+use mathlib.Core.List.{List, [], ◌∷◌, ◌++◌, map, append_assoc, append-nil}
 use mathlib.Core.Option.{Option, none, some, none-ne-some, some-injective}
 use mathlib.Core.Logic.{inl}
 use native.Mathlib.Omega.{arith}
@@ -98,7 +98,7 @@ module _ (p : Prog) where
     where
       pick : (I : Intersected) → intersect no_limit (meeting_at x u) ≡ I → All (EndsFrom p n x) (trailed_of x.trail x.steps I ++ [])
       pick (common P) e = (
-        record { m = 0; d = x.conf; bs = []; u = u; derivation = here; within = omega arith; terminal = h; trail = inv (append_nil x.trail); steps = omega arith; class = e },
+        record { m = 0; d = x.conf; bs = []; u = u; derivation = here; within = omega arith; terminal = h; trail = inv (append-nil x.trail); steps = omega arith; class = e },
         tt,
       )
       pick disjoint e = tt
@@ -221,7 +221,7 @@ module _ (p : Prog) where
 
     complete_from : {c : Configuration} {m : ℕ} {bs : List Bool} (n s : ℕ) (ts : List Bool) → LineOf → Derivation p d c m bs → m ≤ n →
         y.trail ≡ ts ++ bs → y.line.steps ≡ s + m → Among (lines_behind n (record { conf = c; steps = s; trail = ts })) y
-    complete_from n s ts l here k e f = complete_here n s ts l (e ∙ append_nil ts) (omega arith)
+    complete_from n s ts l here k e f = complete_here n s ts l (e ∙ append-nil ts) (omega arith)
     complete_from zero s ts l (there c b o m bs t h) k e f = absurd (not-suc-le-zero k)
     complete_from (suc n) s ts l (there c b none m bs t h) k e f =
         complete_behind n (record { conf = c; steps = s; trail = ts }) none b y (successors p c) (transition_child t) (complete_from n (suc s) ts l h (le_of_suc-le-suc k) e (omega arith))

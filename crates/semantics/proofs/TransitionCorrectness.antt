@@ -7,7 +7,7 @@ use mathlib.Core.Option.{Option, none, some}
 use mathlib.Core.Logic.{◌⊎◌, inl, inr}
 use native.Mathlib.Omega.{arith}
 use lib.Dec.{eqb}
-use borrow.Author.Tests.{eqb-true, eqb_false, eq-eqb, ne_eqb}
+use borrow.Author.Tests.{eqb-true, eqb-false, eq-eqb, ne_eqb}
 use Rattle.expressions.specs.Expression.{Value, atom, cons, AtomicExp, sym, avar, Exp, atm, evar, pair}
 use Rattle.expressions.specs.Substitution.{GroundSubst, ground_exp, ground_atomic, apply, apply_atomic}
 use Rattle.expressions.specs.Restriction.{Satisfies, same_atomic}
@@ -219,8 +219,8 @@ module _ (p : Prog) (P : CRPair state) (k : ℕ) (inv' : Invariant k P) where
           HasSuccessor p P T θ (configuration s k (contract (equality_contraction x' y') P)) ⊎ HasSuccessor p P T θ (configuration t k (contract (non_equal x' y') P))
       pick θ h true e = inl (contracted_complete p P T P.con.env s k (equality_contraction x' y') θ h (equal_holds θ x' y' (eqb-true _ _ e))
           (ap (λ (b : Bool). cond b (go s (ground_env θ P.con.env)) (go t (ground_env θ P.con.env))) (yes' θ (eqb-true _ _ e))))
-      pick θ h false e = inr (contracted_complete p P T P.con.env t k (non_equal x' y') θ h (eqb_false _ _ e)
-          (ap (λ (b : Bool). cond b (go s (ground_env θ P.con.env)) (go t (ground_env θ P.con.env))) (no' θ (eqb_false _ _ e))))
+      pick θ h false e = inr (contracted_complete p P T P.con.env t k (non_equal x' y') θ h (eqb-false _ _ e)
+          (ap (λ (b : Bool). cond b (go s (ground_env θ P.con.env)) (go t (ground_env θ P.con.env))) (no' θ (eqb-false _ _ e))))
 
   module _ (c : Exp) (h t x : ℕ) (s u : Term) where
     abbrev T : Term

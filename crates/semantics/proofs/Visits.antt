@@ -2,8 +2,8 @@
 -- their lines and transitions are those of the listing.
 use Prim.Native.Nat.{ℕ, zero, suc, ◌+◌, ◌≤◌, ◌<◌}
 use mathlib.Core.Path.{◌≡◌, refl, ap, ap₂, subst, ◌∙◌, sym as inv}
-use mathlib.Core.Bool.{Bool, true, false, ◌||◌, false≢true, or_true}
-use mathlib.Core.List.{List, [], ◌∷◌, ◌++◌, append_assoc, append_nil}
+use mathlib.Core.Bool.{Bool, true, false, ◌||◌, false≢true, or-true}
+use mathlib.Core.List.{List, [], ◌∷◌, ◌++◌, append_assoc, append-nil}
 use mathlib.Core.Option.{Option, none, some, none-ne-some, some-ne-none, some-injective}
 use mathlib.Core.Logic.{◌⊎◌, inl, inr, ◌↔◌}
 use native.Mathlib.Omega.{arith}
@@ -149,7 +149,7 @@ module _ (p : Prog) (n : ℕ) where
           found : Any (Unfinished n) (behind_branch p k x true a) ⊎ Any (Unfinished n) (behind_branch p k x false b) →
               (any_of (unfinished_nodes (branch (tree p k) x true a)) || any_of (unfinished_nodes (branch (tree p k) x false b))) ≡ true
           found (inl h) = ap (λ (c : Bool). c || any_of (unfinished_nodes (branch (tree p k) x false b))) (f.1 h)
-          found (inr h) = ap (λ (c : Bool). any_of (unfinished_nodes (branch (tree p k) x true a)) || c) (g.1 h) ∙ or_true (any_of (unfinished_nodes (branch (tree p k) x true a)))
+          found (inr h) = ap (λ (c : Bool). any_of (unfinished_nodes (branch (tree p k) x true a)) || c) (g.1 h) ∙ or-true (any_of (unfinished_nodes (branch (tree p k) x true a)))
 
           either : Any (Unfinished n) (visit_of x (branches a b) ∷ (behind_branch p k x true a ++ behind_branch p k x false b)) →
               (any_of (unfinished_nodes (branch (tree p k) x true a)) || any_of (unfinished_nodes (branch (tree p k) x false b))) ≡ true
@@ -214,7 +214,7 @@ module _ (p : Prog) where
   branch_below k x b (some c) ih = all_map (λ v. Below (after_decision x b c) v.node) (λ v. BelowBranch x b v.node) (below_decision x b c) (behind p k (after_decision x b c)) (ih (after_decision x b c))
 
   below_here : (x : Node) → Below x x
-  below_here x = (([], inv (append_nil x.trail)), omega arith)
+  below_here x = (([], inv (append-nil x.trail)), omega arith)
 
   -- of all behind a branch
   branch_weak : (x : Node) (b : Bool) (v : Visit) → BelowBranch x b v.node → Below x v.node
@@ -276,7 +276,7 @@ module _ (p : Prog) where
 
     standing_call : (k : ℕ) (x : Node) (d : Configuration) → Standing p n c (suc k) x → child none (successors p x.conf) ≡ some d → Standing p n c k (after_call x d)
     standing_call k x d s e = record {
-      derivation = subst (Derivation p d c (suc x.steps)) (append_nil x.trail) (derivation_after s.derivation (child_transition p x.conf d none s.scoped e));
+      derivation = subst (Derivation p d c (suc x.steps)) (append-nil x.trail) (derivation_after s.derivation (child_transition p x.conf d none s.scoped e));
       depth = omega (arith, s.depth);
       scoped = child_scoped p x.conf d none wf s.scoped e;
     }
@@ -334,7 +334,7 @@ module _ (p : Prog) where
 
     among_from : {c : Configuration} {m : ℕ} {bs : List Bool} (k s : ℕ) (ts : List Bool) → Derivation p v.node.conf c m bs → m ≤ k → v.node.trail ≡ ts ++ bs → v.node.steps ≡ s + m →
         Among (behind p k (record { conf = c; steps = s; trail = ts })) v
-    among_from k s ts here l e f = among_here k s ts (e ∙ append_nil ts) (omega (arith, f))
+    among_from k s ts here l e f = among_here k s ts (e ∙ append-nil ts) (omega (arith, f))
     among_from zero s ts (there c b o m bs t h) l e f = absurd (not-suc-le-zero l)
     among_from (suc k) s ts (there c b none m bs t h) l e f =
         among_behind k (record { conf = c; steps = s; trail = ts }) none b v (successors p c) (transition_child t) (among_from k (suc s) ts h (le_of_suc-le-suc l) e (omega (arith, f)))

@@ -2,13 +2,13 @@
 use Prim.Native.Nat.{ℕ, zero, suc, ◌+◌, ◌-◌, ◌*◌, ◌≤◌, ◌<◌}
 use mathlib.Core.Path.{◌≡◌, refl, ap, ap₂, ◌∙◌, sym as inv}
 use mathlib.Core.Bool.{Bool, true, false, cond, ◌&&◌, ◌||◌}
-use mathlib.Core.List.{List, [], ◌∷◌, ◌++◌, append_assoc, append_nil}
+use mathlib.Core.List.{List, [], ◌∷◌, ◌++◌, append_assoc, append-nil}
 use mathlib.Core.Logic.{◌⊎◌, inl, inr, ◌↔◌}
 use native.Mathlib.Omega.{arith}
 use lib.Dec.{eqb, leb}
-use lib.ListN.{length, take, drop, length_append, take-append-drop}
+use lib.ListN.{length, take, drop, length-append, take-append-drop}
 use lib.Seq.{paste, drop-drop, drop-append_seam, take-append_seam}
-use borrow.Author.Tests.{eqb-true, eqb_false, eq-eqb, ne_eqb, le-leb, lt-leb}
+use borrow.Author.Tests.{eqb-true, eqb-false, eq-eqb, ne_eqb, le-leb, lt-leb}
 use Rattle.expressions.specs.Expression.{AtomicExp, sym, avar, Exp, atm, evar, pair, nodes, nodes_all}
 use Rattle.expressions.specs.Restriction.{Restriction, nodes_restriction}
 use Rattle.expressions.specs.Intersection.{occurs}
@@ -35,17 +35,17 @@ code_test tag m n = pick (eqb m n) refl
   where
     pick : (t : Bool) → eqb m n ≡ t → eqb (4 * m + tag) (4 * n + tag) ≡ t
     pick true e = eq-eqb (4 * m + tag) (4 * n + tag) (ap (λ (k : ℕ). 4 * k + tag) (eqb-true m n e))
-    pick false e = ne_eqb (4 * m + tag) (4 * n + tag) (λ q. eqb_false m n e (omega arith))
+    pick false e = ne_eqb (4 * m + tag) (4 * n + tag) (λ q. eqb-false m n e (omega arith))
 
 -- a cell a node
 pub cells_nodes : (c : Exp) → length (cells c) ≡ nodes c
 cells_nodes (atm x) = refl
 cells_nodes (evar n) = refl
-cells_nodes (pair c d) = omega (arith, length_append (cells c) (cells d), cells_nodes c, cells_nodes d)
+cells_nodes (pair c d) = omega (arith, length-append (cells c) (cells d), cells_nodes c, cells_nodes d)
 
 pub cells_all_nodes : (cs : List Exp) → length (cells_all cs) ≡ nodes_all cs
 cells_all_nodes [] = refl
-cells_all_nodes (c ∷ cs) = omega (arith, length_append (cells c) (cells_all cs), cells_nodes c, cells_all_nodes cs)
+cells_all_nodes (c ∷ cs) = omega (arith, length-append (cells c) (cells_all cs), cells_nodes c, cells_all_nodes cs)
 
 pub restriction_cells_nodes : (qs : Restriction) → length (restriction_cells qs) ≡ nodes_restriction qs
 restriction_cells_nodes [] = refl
@@ -74,7 +74,7 @@ cells_prefix (pair a b) (pair c d) r s e =
     (ap₂ pair one.0 two.0, two.1)
 
 pub cells_injective : (c d : Exp) → cells c ≡ cells d → c ≡ d
-cells_injective c d e = (cells_prefix c d [] [] (simp append_nil e)).0
+cells_injective c d e = (cells_prefix c d [] [] (simp append-nil e)).0
 
 pub walk_cells : (c : Exp) (rest : List ℕ) (k : ℕ) → walk_trees (cells c ++ rest) (suc k) ≡ nodes c + walk_trees rest k
 unfolding walk_trees

@@ -2,12 +2,12 @@
 use Prim.Native.Nat.{ℕ, suc, ◌+◌, ◌-◌, ◌≤◌, ◌<◌, min}
 use mathlib.Core.Path.{◌≡◌, refl, ap, ap₂, ◌∙◌, sym as inv}
 use mathlib.Core.Bool.{Bool, true, false, cond}
-use mathlib.Core.List.{List, [], ◌∷◌, ◌++◌, map, append_assoc, append_nil}
+use mathlib.Core.List.{List, [], ◌∷◌, ◌++◌, map, append_assoc, append-nil}
 use native.Mathlib.Omega.{arith}
 use native.Mathlib.Decide.{dec_le}
-use native.Mathlib.Numerals.{add_one}
+use native.Mathlib.Numerals.{add-one}
 use lib.Dec.{eqb, ltb, leb}
-use lib.ListN.{length, take, drop, set, length_append, length-drop}
+use lib.ListN.{length, take, drop, set, length-append, length-drop}
 use lib.Seq.{paste, paste-zero, take-length, take-take, take_at, drop_at, drop-drop, set_split, append_snoc, length-take-le}
 use borrow.Author.Tests.{ne_eqb, le-ltb, lt-leb, ltb-false, leb-false}
 use Rattle.expressions.specs.Expression.{AtomicExp, sym, avar, Exp, atm, evar, pair, nodes, nodes_all}
@@ -25,7 +25,7 @@ spread_append x v (c ∷ s) t = rw (spread_append x v s t) (inv (append_assoc (c
 -- [Xe ↦ d]
 module _ (n : ℕ) (d : Exp) where
   one_e : (m : ℕ) (b : Bool) → cond b (cells d) (evar_code m ∷ []) ++ [] ≡ cells (cond b d (evar m))
-  one_e m true = append_nil (cells d)
+  one_e m true = append-nil (cells d)
   one_e m false = refl
 
   atomic_e : (x : AtomicExp) → atomic_code x ≡ atomic_code (apply_atomic (subst_e n d) x)

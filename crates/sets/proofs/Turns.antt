@@ -5,7 +5,7 @@ use mathlib.Core.Bool.{Bool, true, false, cond}
 use mathlib.Core.List.{List, [], ◌∷◌}
 use native.Mathlib.Omega.{arith}
 use native.Mathlib.Decide.{dec_le}
-use native.Mathlib.Numerals.{add_one}
+use native.Mathlib.Numerals.{add-one}
 use lib.Dec.{leb, ltb, eqb}
 use lib.ListN.{length, drop, get_or, set, drop_of_length-le}
 use lib.Seq.{drop-cons, take-nil}
@@ -18,7 +18,7 @@ pub part_cons : (s : List ℕ) (i to : ℕ) → i < min to (length s) → part i
 part_cons s i to h =
     let n : to - i ≡ suc (to - (i + 1)) = omega arith in
     let b : i < length s = omega arith in
-    rw (n, drop-cons s i 0 b, ← add_one i)
+    rw (n, drop-cons s i 0 b, ← add-one i)
 
 pub part_end : (s : List ℕ) (i to : ℕ) → min to (length s) ≤ i → part i to s ≡ []
 part_end s i to h = go (dec_le to i)
@@ -41,12 +41,12 @@ module _ (s : List ℕ) (i : ℕ) (in-s : i < length s) where
   pub walk_pair : (need next : ℕ) → (need ≡ 0 → ⊥) → get_or s i 0 ≡ 4 → next ≡ need + 1 → walk_trees (drop i s) need ≡ 1 + walk_trees (drop (i + 1) s) next
   unfolding walk_trees
   walk_pair zero next p e q = absurd (p refl)
-  walk_pair (suc k) next p e q = let n : next ≡ suc (suc k) = omega arith in rw (add_one i, drop-cons s i 0, eq-eqb (get_or s i 0) 4, n)
+  walk_pair (suc k) next p e q = let n : next ≡ suc (suc k) = omega arith in rw (add-one i, drop-cons s i 0, eq-eqb (get_or s i 0) 4, n)
 
   pub walk_leaf : (need next : ℕ) → (need ≡ 0 → ⊥) → (get_or s i 0 ≡ 4 → ⊥) → next ≡ need - 1 → walk_trees (drop i s) need ≡ 1 + walk_trees (drop (i + 1) s) next
   unfolding walk_trees
   walk_leaf zero next p e q = absurd (p refl)
-  walk_leaf (suc k) next p e q = let n : next ≡ k = omega arith in rw (add_one i, drop-cons s i 0, ne_eqb (get_or s i 0) 4, n)
+  walk_leaf (suc k) next p e q = let n : next ≡ k = omega arith in rw (add-one i, drop-cons s i 0, ne_eqb (get_or s i 0) 4, n)
 
 -- four cells on, where the needed trees do not end in them
 one_at_most : (b : Bool) → cond b 1 0 ≤ 1
@@ -57,7 +57,7 @@ module _ (s : List ℕ) where
   walk_one : (i need j next : ℕ) → i < length s → 0 < need → j ≡ i + 1 → next ≡ need + 2 * one_pair (get_or s i 0) - 1 → walk_trees (drop i s) need ≡ 1 + walk_trees (drop j s) next
   unfolding walk_trees
   walk_one i zero j next l p e f = absurd (omega arith)
-  walk_one i (suc k) j next l p e f = rw (e, f, add_one i, drop-cons s i 0 l) (ap (λ (n : ℕ). 1 + walk_trees (drop (suc i) s) n) (pick (eqb (get_or s i 0) 4)))
+  walk_one i (suc k) j next l p e f = rw (e, f, add-one i, drop-cons s i 0 l) (ap (λ (n : ℕ). 1 + walk_trees (drop (suc i) s) n) (pick (eqb (get_or s i 0) 4)))
     where
       pick : (b : Bool) → cond b (suc (suc k)) k ≡ suc k + 2 * cond b 1 0 - 1
       pick true = omega arith

@@ -5,12 +5,12 @@ use mathlib.Core.Path.{◌≡◌, refl, ap, ap₂, subst, ◌∙◌, sym as inv}
 use mathlib.Core.Bool.{Bool, true, false, cond, ◌||◌}
 use mathlib.Core.List.{List, [], ◌∷◌}
 use native.Mathlib.Omega.{arith}
-use native.Mathlib.Numerals.{add_one}
+use native.Mathlib.Numerals.{add-one}
 use native.Mathlib.Nat.{add_assoc}
 use lib.Dec.{eqb, leb, ltb}
 use lib.ListN.{length, get_or, set, length-set}
 use lib.Seq.{get_or-set_same, get_or-set_other}
-use borrow.Author.Tests.{eqb-true, eqb_false, ltb-true, ltb-false, lt-leb}
+use borrow.Author.Tests.{eqb-true, eqb-false, ltb-true, ltb-false, lt-leb}
 use Rattle.expressions.specs.Expression.{Exp}
 use Rattle.language.specs.Bytes.{txt}
 use Rattle.language.specs.Words.{fits}
@@ -68,7 +68,7 @@ module _ (tok : ℕ → Token) (n : ℕ) (names : Unbracketed tok) where
       (r d : ℕ) → from (k + 1 - i + r) d i ≡ after d r (k + 1)
   two_past w i j k o y p q l m f g e r d =
       let z : k + 1 - i + r ≡ suc (suc (j - (i + 2) + (k - j + suc r))) = omega arith in
-      rw (z, open_step "(" _ d i o refl, word_step w _ (d + 1) (i + 1) y p q, add_assoc i 1 1, add_one d, f (k - j + suc r) d, g (suc r) d, close_step ")" r d k e refl refl)
+      rw (z, open_step "(" _ d i o refl, word_step w _ (d + 1) (i + 1) y p q, add_assoc i 1 1, add-one d, f (k - j + suc r) d, g (suc r) d, close_step ")" r d k e refl refl)
 
   pub exp_through : {text : Text} {i : ℕ} {c : Exp} {k : ℕ} → ExpIn tok n text i c k → (r d : ℕ) → from (k - i + r) (suc d) i ≡ from r (suc d) k
   exp_through {i} (symbol_in b x) r d = let z : i + 1 - i + r ≡ suc r = omega arith in rw z (name_step _ r (suc d) i x)
@@ -100,7 +100,7 @@ module _ (tok : ℕ → Token) (n : ℕ) (names : Unbracketed tok) where
         open_step "(" _ d i o refl,
         word_step "cons?" _ (d + 1) (i + 1) w refl refl,
         add_assoc i 1 1,
-        add_one d,
+        add-one d,
         exp_through c (suc (suc (suc (suc r)))) d,
         name_step _ _ (suc d) j h,
         name_step _ _ (suc d) (j + 1) t,
@@ -134,8 +134,8 @@ module _ (tok : ℕ → Token) (n : ℕ) (names : Unbracketed tok) where
         add_assoc i 2 1,
         open_step "[" _ (d + 1) (i + 3) b refl,
         add_assoc i 3 1,
-        add_one d,
-        add_one (suc d),
+        add-one d,
+        add-one (suc d),
         exps_through x (suc (suc r)) (suc d),
         close_step "]" (suc r) (suc d) k (closing x) refl refl,
         close_step ")" r d (k + 1) c refl refl,
@@ -147,7 +147,7 @@ module _ (tok : ℕ → Token) (n : ℕ) (names : Unbracketed tok) where
   if_past {i} {j} {k} {m} o w q l p f g e r d =
       let y = condition_least q in
       let z : m + 1 - i + r ≡ suc (suc (j - (i + 2) + (k - j + (m - k + suc r)))) = omega arith in
-      rw (z, open_step "(" _ d i o refl, word_step "if" _ (d + 1) (i + 1) w refl refl, add_assoc i 1 1, add_one d, condition_past q (k - j + (m - k + suc r)) (suc d), f (m - k + suc r) d, g (suc r) d, close_step ")" r d m e refl refl)
+      rw (z, open_step "(" _ d i o refl, word_step "if" _ (d + 1) (i + 1) w refl refl, add_assoc i 1 1, add-one d, condition_past q (k - j + (m - k + suc r)) (suc d), f (m - k + suc r) d, g (suc r) d, close_step ")" r d m e refl refl)
 
   term_through : {fs : List ℕ} {i : ℕ} {t : Term} {k : ℕ} → TermIn tok n fs i t k → (r d : ℕ) → from (k - i + r) (suc d) i ≡ from r (suc d) k
   term_through (call_in o w f b x c) r d = call_past o w _ f b x c r (suc d)
@@ -208,4 +208,4 @@ module _ (key : ℕ → ℕ) (n : ℕ) where
       go true e f =
           let q = eqb-true i j e in let k : i < length cells = omega arith in
           subst here q (ends_kept left (i + 1) i _ (omega arith) ∙ get_or-set_same cells i _ 0 k)
-      go false e f = let q = eqb_false i j e in f (more i j a q)
+      go false e f = let q = eqb-false i j e in f (more i j a q)

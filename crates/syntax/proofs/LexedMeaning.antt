@@ -4,10 +4,10 @@ use mathlib.Core.Path.{◌≡◌, refl, ap, ap₂, subst, ◌∙◌, sym}
 use mathlib.Core.Bool.{Bool, true, false, cond, ◌&&◌, not}
 use mathlib.Core.List.{List, [], ◌∷◌, ◌++◌}
 use native.Mathlib.Omega.{arith}
-use native.Mathlib.Numerals.{add_one}
+use native.Mathlib.Numerals.{add-one}
 use native.Mathlib.Decide.{ℕ_discrete}
 use lib.Dec.{ltb}
-use lib.ListN.{length, drop, get_or, set, length-set, length_append, length-drop}
+use lib.ListN.{length, drop, get_or, set, length-set, length-append, length-drop}
 use lib.Seq.{length-take-le, get_or-set_same, get_or-set_other}
 use borrow.Author.Tests.{ltb-true, ltb-false}
 use Rattle.language.specs.Words.{Word}
@@ -86,7 +86,7 @@ module _ (P : ℕ → Type 0) (table : List ℕ) (zs : List Word) (w : Word) (k�
       go : Dec (k ≡ k₀) → P (get_or (entered table k₀ hash o) (2 * k + 1) 0)
       go (yes e) = subst P (sym (ap (λ n. get_or (entered table k₀ hash o) (2 * n + 1) 0) e ∙ get_or-set_same (set table (2 * k₀) hash) (2 * k₀ + 1) o 0 room)) here
       go (no e) = subst P (sym (get_or-set_other (set table (2 * k₀) hash) (2 * k₀ + 1) (2 * k + 1) o 0 (λ z. e (omega arith)) ∙ get_or-set_other table (2 * k₀) (2 * k + 1) hash 0 (λ z. omega arith)))
-          (there k (let l = length_append zs (w ∷ []) in let n : (k ≡ length zs) → ⊥ = λ z. e (z ∙ sym counts) in omega arith))
+          (there k (let l = length-append zs (w ∷ []) in let n : (k ≡ length zs) → ⊥ = λ z. e (z ∙ sym counts) in omega arith))
 
 module _ (job : Bool) (first text : List ℕ) (short : length text ≤ 32768) (offsets : (o : ℕ) → o ≤ length text → word_in first text (shifted job o) ≡ word_at text o)
     (P : ℕ → Type 0) (stands : (o : ℕ) → o ≤ length text → P (shifted job o)) where
@@ -178,7 +178,7 @@ module _ (job : Bool) (first text : List ℕ) (short : length text ≤ 32768) (o
           (λ e. omega (arith, h.symbol_room, symbols_below job first text short offsets s p qs ws zs h passes e)))
 
       leaves_on : (f : State) → Leaves first text P f next (tokens_from all others (text_of job) (s.i + 1) qs) all → Leaves first text P f s (t ∷ later) all
-      leaves_on f x = go later (ap (λ n. tokens_from all others (text_of job) n qs) (add_one s.i)) x
+      leaves_on f x = go later (ap (λ n. tokens_from all others (text_of job) n qs) (add-one s.i)) x
         where
           go : (us : List Token) → tokens_from all others (text_of job) (s.i + 1) qs ≡ us → Leaves first text P f next (tokens_from all others (text_of job) (s.i + 1) qs) all → Leaves first text P f s (t ∷ us) all
           go us z y =

@@ -4,7 +4,7 @@ use mathlib.Core.Path.{◌≡◌, refl, ap, ap₂, subst, ◌∙◌, sym as inv}
 use mathlib.Core.Bool.{Bool, true, false, cond, ◌&&◌, ◌||◌, not, false≢true}
 use mathlib.Core.List.{List, [], ◌∷◌}
 use native.Mathlib.Omega.{arith}
-use native.Mathlib.Numerals.{add_one}
+use native.Mathlib.Numerals.{add-one}
 use lib.Dec.{eqb, leb, ltb, eqb-zero-suc, eqb-suc-zero, eqb-suc-suc}
 use lib.ListN.{length, get_or, set, replicate, length-set, length-replicate}
 use lib.Seq.{get_or-set_same, get_or-set_other}
@@ -73,7 +73,7 @@ module _ (tok : ℕ → Token) (n : ℕ) where
   unfolding is_named
   push_reached sc x m i w =
       let s = w.spare in let z = w.size in let l : sc.used < 144 = omega arith in let k : sc.used < length sc.cells = omega arith in
-      rw (pushed sc x l, add_one, get_or-set_same sc.cells sc.used x 0 k, named_before sc.cells sc.used sc.used x i (omega arith))
+      rw (pushed sc x l, add-one, get_or-set_same sc.cells sc.used x 0 k, named_before sc.cells sc.used sc.used x i (omega arith))
 
   pub same_kind : (k l : Kind) (i j : ℕ) → is_a k (tok i) ≡ true → is_a l (tok j) ≡ true → same i j ≡ (eqb (tag k) (tag l) && eqb (tok i).num (tok j).num)
   same_kind k l i j e f = rw (eqb-true (tag (tok i).kind) (tag k) e, eqb-true (tag (tok j).kind) (tag l) f)

@@ -4,7 +4,7 @@ use mathlib.Core.Path.{◌≡◌, refl, ap, ◌∙◌, sym}
 use mathlib.Core.Bool.{Bool, true, false, cond, ◌||◌, true≢false, false≢true}
 use mathlib.Core.List.{List, [], ◌∷◌, ◌++◌}
 use native.Mathlib.Omega.{arith}
-use native.Mathlib.Numerals.{add_one}
+use native.Mathlib.Numerals.{add-one}
 use lib.Dec.{leb, ltb, eqb}
 use lib.ListN.{length, take, drop, get_or, length-drop, drop_of_length-le, take-append-drop, get_or-eq_default}
 use lib.Seq.{drop-cons, get_or-drop, take-nil}
@@ -95,7 +95,7 @@ module _ (text : List ℕ) where
       let k = top_six d (omega arith) in
       let n = length-drop i text in let n1 = ap length e in
       let h : i < length text = omega arith in
-      let tail : drop (i + 1) text ≡ w ++ rest = ap (λ n. drop n text) (add_one i) ∙ tails (sym (drop-cons text i 0 h) ∙ e) in
+      let tail : drop (i + 1) text ≡ w ++ rest = ap (λ n. drop n text) (add-one i) ∙ tails (sym (drop-cons text i 0 h) ∙ e) in
       rw (g, le-ltb b 48 r0, le-ltb 57 b r1, lt-leb 1000000 v (omega arith), ahead_in (length text) 1 i (omega arith))
       (digits_from w rest left (i + 1) (10 * v + (b - 48)) (suc d) tail s x.1 (omega arith) (omega arith) (unfold top in (omega arith)))
     where

@@ -5,7 +5,7 @@ use mathlib.Core.Path.{◌≡◌, refl, ◌∙◌}
 use mathlib.Core.Bool.{true, false, ◌||◌}
 use mathlib.Core.List.{List}
 use native.Mathlib.Omega.{arith}
-use native.Mathlib.Numerals.{add_one}
+use native.Mathlib.Numerals.{add-one}
 use native.Mathlib.Nat.{add_assoc}
 use lib.Dec.{eqb}
 use Rattle.language.specs.Bytes.{txt}
@@ -60,7 +60,7 @@ module _ (tok : ℕ → Token) (n : ℕ) (names : Unbracketed tok) where
       rw (
         e,
         ends.open_step tok n names "[" _ (suc d) i o refl,
-        add_one (suc d),
+        add-one (suc d),
         through x (k - j + suc (m - (k + 1) + r)) (suc d),
         through y (suc (m - (k + 1) + r)) (suc d),
         ends.close_step tok n names "]" (m - (k + 1) + r) (suc d) k z refl refl,
@@ -84,7 +84,7 @@ module _ (tok : ℕ → Token) (n : ℕ) (names : Unbracketed tok) where
             ends.open_step tok n names "(" _ d i o refl,
             ends.word_step tok n names w _ (d + 1) (i + 1) y p q,
             add_assoc i 1 1,
-            add_one d,
+            add-one d,
             f (suc r) d,
             ends.close_step tok n names ")" r d k e refl refl,
           )

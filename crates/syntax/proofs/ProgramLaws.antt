@@ -2,12 +2,12 @@
 use Prim.Native.Nat.{ℕ, zero, suc, ◌+◌, ◌-◌, ◌≤◌, ◌<◌}
 use mathlib.Core.Path.{◌≡◌, refl, ap, ap₂, subst, ◌∙◌, sym as inv}
 use mathlib.Core.Bool.{Bool, true, false, cond, ◌&&◌, ◌||◌, not}
-use mathlib.Core.List.{List, [], ◌∷◌, ◌++◌, append_assoc, append_nil}
+use mathlib.Core.List.{List, [], ◌∷◌, ◌++◌, append_assoc, append-nil}
 use mathlib.Core.Option.{none, some}
 use native.Mathlib.Omega.{arith}
 use native.Mathlib.Nat.{add_assoc}
 use lib.Dec.{eqb, leb, ltb, leb-zero, leb-suc-zero, leb-suc-suc}
-use lib.ListN.{length, get_or, set, length-set, length-replicate, length_append}
+use lib.ListN.{length, get_or, set, length-set, length-replicate, length-append}
 use lib.Seq.{get_or-set_same, get_or-set_other}
 use borrow.Author.Tests.{lt-ltb}
 use Rattle.language.specs.Bytes.{unless, ◌orElse◌}
@@ -195,7 +195,7 @@ module _ (tok : ℕ → Token) (n : ℕ) where
   step_built : (a : Defs) {ds : List SDef} {before : List ℕ} {d : SDef} {k : ℕ} (v : Verdict) → Built a ds before → length ds < 64 → DefAt tok n a.past d k →
       Built (made a (a.past + 2) k v) (ds ++ (d ∷ [])) (d.name.num ∷ before)
   step_built a {ds} {before} {d} v b l x =
-      let c0 = b.count in let z0 = b.size in let c1 = length_append ds (d ∷ []) in
+      let c0 = b.count in let z0 = b.size in let c1 = length-append ds (d ∷ []) in
       let e : 0 + length ds ≡ a.count = omega arith in
       record {
         heads = heads_more b.heads x e (omega arith);
@@ -225,12 +225,12 @@ module _ (tok : ℕ → Token) (n : ℕ) where
   defs_at_lem : {k : ℕ} {es : List SDef} (left : ℕ) (a : Defs) (ds : List SDef) (before : List ℕ) → DefsAt tok n a.past es k → Built a ds before → length es ≤ left → length ds + length es ≤ 64 →
       All (defs_of left a) (ds ++ es) (first a.names (coded (defs_twice before es)))
   unfolding defs_at
-  defs_at_lem zero a ds before (at.DefsAt.none_at x) b l m = rw (append_nil, first_fine) (record { heads = b.heads; order = b.order; count = b.count; names = refl })
-  defs_at_lem (suc left) a ds before (at.DefsAt.none_at x) b l m = rw (x.key, append_nil, first_fine) (record { heads = b.heads; order = b.order; count = b.count; names = refl })
+  defs_at_lem zero a ds before (at.DefsAt.none_at x) b l m = rw (append-nil, first_fine) (record { heads = b.heads; order = b.order; count = b.count; names = refl })
+  defs_at_lem (suc left) a ds before (at.DefsAt.none_at x) b l m = rw (x.key, append-nil, first_fine) (record { heads = b.heads; order = b.order; count = b.count; names = refl })
   defs_at_lem zero a ds before (at.DefsAt.more_at y x xs) b l m = let z : ⊥ = omega arith in absurd z
   defs_at_lem (suc left) a ds before (at.DefsAt.more_at {j = j} {d = d} {ds = es} y x xs) b l m =
       let u = unless (not (is_in d.name.num before)) 6 d.name.at in
-      let c1 = length_append ds (d ∷ []) in
+      let c1 = length-append ds (d ∷ []) in
       let m0 : length ds < 64 = omega arith in let m1 : length (ds ++ (d ∷ [])) + length es ≤ 64 = omega arith in let l1 : length es ≤ left = omega arith in
       let v = u or_else meaning.params_twice [] d.params or_else term_twice d.body in
       let h = defs_at_lem left (made a (a.past + 2) j (coded v)) (ds ++ (d ∷ [])) (d.name.num ∷ before) xs (step_built a (coded v) b m0 x) l1 m1 in

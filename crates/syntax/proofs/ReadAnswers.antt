@@ -5,7 +5,7 @@ use mathlib.Core.Bool.{Bool, true, false, cond, not}
 use mathlib.Core.List.{List, [], ◌∷◌}
 use mathlib.Core.Option.{none, some}
 use native.Mathlib.Omega.{arith}
-use native.Mathlib.Numerals.{add_one}
+use native.Mathlib.Numerals.{add-one}
 use lib.Dec.{leb, ltb}
 use lib.ListN.{length}
 use borrow.Author.Tests.{lt-ltb, le-ltb, leb-true}
@@ -36,7 +36,7 @@ outside_from_lem o (b ∷ bs) = go (is_outside (byte_kind b)) (outside_from_lem 
     go : (t : Bool) → sound_at (ltb (scan sound (suc o) bs) (suc o + length bs)) (scan sound (suc o) bs) ≡ bytes_got (outside_from (suc o) bs) (suc o + length bs) →
         sound_at (ltb (cond (not t) (scan sound (o + 1) bs) o) (o + suc (length bs))) (cond (not t) (scan sound (o + 1) bs) o) ≡ bytes_got (cond t (fault 2 o) (outside_from (suc o) bs)) (o + suc (length bs))
     go true again = ap (λ b. sound_at b o) (lt-ltb o (o + suc (length bs)) (omega arith))
-    go false again = let n : o + suc (length bs) ≡ suc o + length bs = omega arith in rw (n, add_one o) again
+    go false again = let n : o + suc (length bs) ≡ suc o + length bs = omega arith in rw (n, add-one o) again
 
 -- refusals 1 and 2
 pub bytes_found : (limit : ℕ) (bs : List ℕ) → bytes_at limit bs ≡ bytes_got (bytes_verdict limit bs) (length bs)

@@ -1,10 +1,10 @@
 -- Numbers written one after the other, zeros behind them.
 use Prim.Native.Nat.{ℕ, zero, suc, ◌+◌, ◌-◌, ◌≤◌, ◌<◌}
 use mathlib.Core.Path.{◌≡◌, refl, ap, ◌∙◌, sym}
-use mathlib.Core.List.{List, [], ◌∷◌, ◌++◌, append_assoc, append_nil}
+use mathlib.Core.List.{List, [], ◌∷◌, ◌++◌, append_assoc, append-nil}
 use native.Mathlib.Nat.{not-suc-le-zero, le_of_suc-le-suc}
 use native.Mathlib.Omega.{arith}
-use lib.ListN.{length, get_or, set, take, drop, replicate, length_append, drop_of_length-le, get_or-replicate}
+use lib.ListN.{length, get_or, set, take, drop, replicate, length-append, drop_of_length-le, get_or-replicate}
 use lib.Seq.{set-append_seam, drop-cons}
 use Rattle.telling.specs.Numbers.{padded}
 
@@ -34,7 +34,7 @@ add_one e = omega (arith, e)
 pub padded_length : (v : List ℕ) (i : ℕ) → length (padded v i) ≡ i
 unfolding padded
 padded_length v zero = let z : 0 - length v ≡ 0 = omega arith in rw (z) refl
-padded_length v (suc i) = ap length (padded_more v i) ∙ length_append (padded v i) (get_or v i 0 ∷ []) ∙ add_one (padded_length v i)
+padded_length v (suc i) = ap length (padded_more v i) ∙ length-append (padded v i) (get_or v i 0 ∷ []) ∙ add_one (padded_length v i)
 
 pub padded_none : (v s : List ℕ) → padded v 0 ++ drop 0 s ≡ s
 unfolding padded
@@ -53,7 +53,7 @@ one_more v s i h =
 
 pub all_written : (v s : List ℕ) (i : ℕ) → i ≡ length s → padded v i ++ drop i s ≡ padded v (length s)
 all_written v s i e =
-    ap (λ (n : ℕ). padded v n ++ drop n s) e ∙ ap (λ (l : List ℕ). padded v (length s) ++ l) (drop_of_length-le s {i = length s} (omega arith)) ∙ append_nil (padded v (length s))
+    ap (λ (n : ℕ). padded v n ++ drop n s) e ∙ ap (λ (l : List ℕ). padded v (length s) ++ l) (drop_of_length-le s {i = length s} (omega arith)) ∙ append-nil (padded v (length s))
 
 -- a number that was written is there
 pub padded_at : (v : List ℕ) (n i : ℕ) → i < n → get_or (padded v n) i 0 ≡ get_or v i 0

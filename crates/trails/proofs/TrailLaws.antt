@@ -5,7 +5,7 @@ use mathlib.Core.Bool.{Bool, true, false, cond}
 use mathlib.Core.List.{List, [], ◌∷◌, ◌++◌, append_assoc}
 use native.Mathlib.Omega.{arith}
 use lib.Dec.{leb}
-use lib.ListN.{length, get_or, set, drop, length_append}
+use lib.ListN.{length, get_or, set, drop, length-append}
 use lib.Seq.{get_or_at, set_at, drop-cons}
 use borrow.Author.Tests.{le-leb, lt-leb, eq-eqb, ne_eqb}
 use Rattle.semantics.proofs.Backtrack.{Choice, trail_of, backtrack_to, backtrack}
@@ -31,7 +31,7 @@ choice_cells (c ∷ cs) = choice_cells cs ++ (code_of c ∷ [])
 
 pub choice_length : (cs : List Choice) → length (choice_cells cs) ≡ length cs
 choice_length [] = refl
-choice_length (c ∷ cs) = omega (arith, length_append (choice_cells cs) (code_of c ∷ []), choice_length cs)
+choice_length (c ∷ cs) = omega (arith, length-append (choice_cells cs) (code_of c ∷ []), choice_length cs)
 
 -- the first `depth` cells hold the path
 pub record PathHeld (cs : List Choice) (path : List ℕ) (depth : ℕ) : Type 0 where
@@ -43,7 +43,7 @@ pub record PathHeld (cs : List Choice) (path : List ℕ) (depth : ℕ) : Type 0 
 pub path_pushed : {cs : List Choice} {path : List ℕ} {depth : ℕ} (c : Choice) → PathHeld cs path depth → length cs < length path → PathHeld (c ∷ cs) (set path depth (code_of c)) (depth + 1)
 path_pushed {cs} {path} {depth} c h room =
     let n = choice_length cs in
-    let l : 0 < length h.rest = omega (arith, ap length h.cells, length_append (choice_cells cs) h.rest) in
+    let l : 0 < length h.rest = omega (arith, ap length h.cells, length-append (choice_cells cs) h.rest) in
     let e : path ≡ choice_cells cs ++ (get_or h.rest 0 0 ∷ drop 1 h.rest) = h.cells ∙ ap (λ (r : List ℕ). choice_cells cs ++ r) (drop-cons h.rest 0 0 l) in
     let f : set path depth (code_of c) ≡ choice_cells cs ++ (code_of c ∷ drop 1 h.rest) =
     ap (λ (p : List ℕ). set p depth (code_of c)) e ∙ set_at (choice_cells cs) (get_or h.rest 0 0) (drop 1 h.rest) (code_of c) depth (omega (arith, h.size)) in
@@ -145,7 +145,7 @@ taken_code c = pick c.taken c.pending
 
 pub trail_length : (cs : List Choice) → length (trail_of cs) ≡ length cs
 trail_length [] = refl
-trail_length (c ∷ cs) = omega (arith, length_append (trail_of cs) (c.taken ∷ []), trail_length cs)
+trail_length (c ∷ cs) = omega (arith, length-append (trail_of cs) (c.taken ∷ []), trail_length cs)
 
 takes_trail : (cs : List Choice) (rest : List ℕ) → Takes (choice_cells cs ++ rest) 0 (trail_of cs)
 takes_trail [] rest = tt

@@ -4,7 +4,7 @@ use mathlib.Core.Path.{◌≡◌, refl, ap, subst, ◌∙◌, sym as inv}
 use mathlib.Core.Bool.{Bool, true, false}
 use mathlib.Core.List.{List, [], ◌∷◌, ◌++◌, append_assoc}
 use native.Mathlib.Omega.{arith}
-use lib.ListN.{length, length_append}
+use lib.ListN.{length, length-append}
 use Rattle.expressions.specs.Expression.{AtomicExp, Exp, atm, evar, pair, nodes_all}
 use Rattle.expressions.specs.Substitution.{Substitution, apply, apply_all}
 use Rattle.expressions.specs.Contraction.{CRPair}
@@ -26,7 +26,7 @@ abbrev pub ends : CRPair state → List Exp
 ends P = P.con.io.ins ++ (P.con.io.out ∷ [])
 
 pub ends_length : (P : CRPair state) → length (ends P) ≡ length P.con.io.ins + 1
-ends_length P = length_append P.con.io.ins (P.con.io.out ∷ [])
+ends_length P = length-append P.con.io.ins (P.con.io.out ∷ [])
 
 pub trees_are : (P : CRPair state) (vs : List Exp) → ends P ++ vs ≡ trees P vs
 trees_are P vs = append_assoc P.con.io.ins (P.con.io.out ∷ []) vs
@@ -51,7 +51,7 @@ module _ {h f q : List ℕ} {c : InCells} {names : List Param} {P : CRPair state
   base_is = omega (arith, x.inputs, x.outputs, ends_length P)
 
   pub entries_are : c.entries ≡ length (ends P) + length x.values
-  entries_are = x.entries ∙ ap length (inv (trees_are P x.values)) ∙ length_append (ends P) x.values
+  entries_are = x.entries ∙ ap length (inv (trees_are P x.values)) ∙ length-append (ends P) x.values
 
   pub state_nodes : nodes_state P ≡ nodes_all (trees P x.values) + nodes_restriction P.neqs
   state_nodes = pair_nodes P x.typed x.env

@@ -7,8 +7,8 @@ use mathlib.Core.Option.{Option, none, some}
 use mathlib.Core.Logic.{◌⊎◌, inl, inr}
 use native.Mathlib.Omega.{arith}
 use lib.Dec.{eqb}
-use lib.ListN.{length, length_append}
-use borrow.Author.Tests.{eqb_false}
+use lib.ListN.{length, length-append}
+use borrow.Author.Tests.{eqb-false}
 use Rattle.expressions.specs.Expression.{AtomicExp, sym, avar, Exp, atm, evar, pair, nodes, nodes_all}
 use Rattle.expressions.specs.Restriction.{nodes_restriction}
 use Rattle.expressions.specs.Contraction.{CRPair}
@@ -86,7 +86,7 @@ bound_place_e x v (e_typed {x = y} {sc = sc} t) b = go (eqb y x) refl (binds_con
   where
     go : (r : Bool) → eqb y x ≡ r → {bs : List (ℕ × Exp)} → (y ≡ x) ⊎ Binds x v bs → (Binds x v bs → place_in (pe x) sc < length sc) → cond r 0 (suc (place_in (pe x) sc)) < suc (length sc)
     go true e k again = omega arith
-    go false e (inl k) again = absurd (eqb_false y x e k)
+    go false e (inl k) again = absurd (eqb-false y x e k)
     go false e (inr k) again = let i = again k in omega arith
 bound_place_e x v (a_typed {sc = sc} t) b = let i = bound_place_e x v t b in omega arith
 
@@ -95,7 +95,7 @@ bound_place_a x v (a_typed {x = y} {sc = sc} t) b = go (eqb y x) refl (binds_con
   where
     go : (r : Bool) → eqb y x ≡ r → {bs : List (ℕ × AtomicExp)} → (y ≡ x) ⊎ Binds x v bs → (Binds x v bs → place_in (pa x) sc < length sc) → cond r 0 (suc (place_in (pa x) sc)) < suc (length sc)
     go true e k again = omega arith
-    go false e (inl k) again = absurd (eqb_false y x e k)
+    go false e (inl k) again = absurd (eqb-false y x e k)
     go false e (inr k) again = let i = again k in omega arith
 bound_place_a x v (e_typed {sc = sc} t) b = let i = bound_place_a x v t b in omega arith
 

@@ -6,7 +6,7 @@ use mathlib.Core.List.{List, [], ◌∷◌, ◌++◌, append_assoc}
 use native.Mathlib.Omega.{arith}
 use borrow.Author.Tests.{lt-ltb, le-ltb, leb-true}
 use lib.Dec.{leb, ltb}
-use lib.ListN.{length, take, drop, replicate, set, length_append, length-replicate, length-drop}
+use lib.ListN.{length, take, drop, replicate, set, length-append, length-replicate, length-drop}
 use lib.Seq.{take-nil, drop-nil, set-append_seam}
 use Rattle.window.specs.declared.sink.Place.{Place}
 use Rattle.window.specs.Windows.{windowed, Printed}
@@ -58,12 +58,12 @@ written : (p q text : List ℕ) (n : ℕ) → n ≡ length p →
 unfolding puts pushed
 written p q [] n e = let m : n + min 0 (length q) ≡ n = omega arith in rw (m, take-nil)
 written p [] (b ∷ t) n e =
-    let l : length (p ++ []) ≤ n = omega (arith, length_append p []) in
+    let l : length (p ++ []) ≤ n = omega (arith, length-append p []) in
     let m : n + min (length t) 0 ≡ n + min (suc (length t)) 0 = omega arith in
     rw (le-ltb n (length (p ++ [])) l) (written p [] t n e ∙ ap₂ (λ (k : ℕ) (o : List ℕ). sink (place 0 k) (p ++ o)) m (drop-nil (length t)))
 written p (y ∷ q) (b ∷ t) n e =
-    let l : n < length (p ++ (y ∷ q)) = omega (arith, length_append p (y ∷ q)) in
-    let m : n + 1 ≡ length (p ++ (b ∷ [])) = omega (arith, length_append p (b ∷ [])) in
+    let l : n < length (p ++ (y ∷ q)) = omega (arith, length-append p (y ∷ q)) in
+    let m : n + 1 ≡ length (p ++ (b ∷ [])) = omega (arith, length-append p (b ∷ [])) in
     let c : (n + 1) + min (length t) (length q) ≡ n + min (suc (length t)) (suc (length q)) = omega arith in
     let stored : set (p ++ (y ∷ q)) n b ≡ (p ++ (b ∷ [])) ++ q = ap (λ (k : ℕ). set (p ++ (y ∷ q)) k b) e ∙ set-append_seam p y q b ∙ sym (append_assoc p (b ∷ []) q) in
     rw (lt-ltb n (length (p ++ (y ∷ q))) l, stored)

@@ -3,7 +3,7 @@ use Prim.Native.Nat.{ℕ, suc, ◌+◌, ◌-◌, ◌≤◌, ◌<◌}
 use mathlib.Core.Path.{◌≡◌, ap, ◌∙◌}
 use mathlib.Core.List.{List, [], ◌∷◌, ◌++◌}
 use native.Mathlib.Omega.{arith}
-use native.Mathlib.Numerals.{add_one}
+use native.Mathlib.Numerals.{add-one}
 use borrow.Author.Tests.{lt-ltb, le-ltb, eq-eqb, ne_eqb}
 use lib.ListN.{length, get_or, take, drop, replicate}
 use lib.Seq.{drop-cons}
@@ -16,7 +16,7 @@ part_front s n = let m : n - 0 ≡ n = omega arith in ap (λ (k : ℕ). take k s
 
 -- one byte of a text, and one of those that are repeated
 pub text_step : (text : List ℕ) (i : ℕ) → i < length text → drop i text ≡ (get_or text i 0 ∷ []) ++ drop (i + 1) text
-text_step text i h = rw (add_one i) (drop-cons text i 0 h)
+text_step text i h = rw (add-one i) (drop-cons text i 0 h)
 
 pub repeat_step : (n b : ℕ) → 0 < n → replicate n b ≡ (b ∷ []) ++ replicate (n - 1) b
 repeat_step n b h = let e : n ≡ suc (n - 1) = omega arith in ap (λ (k : ℕ). replicate k b) e

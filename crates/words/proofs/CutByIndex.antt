@@ -4,7 +4,7 @@ use mathlib.Core.Path.{◌≡◌, refl, ap, ap₂, ◌∙◌, sym}
 use mathlib.Core.Bool.{Bool, true, false, cond, ◌&&◌, true≢false, false≢true}
 use mathlib.Core.List.{List, [], ◌∷◌}
 use native.Mathlib.Omega.{arith}
-use native.Mathlib.Numerals.{add_one}
+use native.Mathlib.Numerals.{add-one}
 use lib.Dec.{leb}
 use lib.ListN.{length, take, drop, get_or, length-drop, drop_of_length-le}
 use lib.Seq.{drop-cons, drop-drop, get_or-drop}
@@ -82,7 +82,7 @@ cut_word o b (c ∷ cs) w = go (in_word (byte_kind c)) refl (λ e. cut_word (suc
 
 scan_first : (s b : ℕ) (bs : List ℕ) → in_word (byte_kind b) ≡ true → scan (λ b. in_word (byte_kind b)) s (b ∷ bs) ≡ suc s + letters bs
 unfolding scan
-scan_first s b bs e = ap (λ t. cond t (scan (λ b. in_word (byte_kind b)) (s + 1) bs) s) e ∙ scan_count (λ b. in_word (byte_kind b)) (s + 1) bs ∙ ap (λ n. n + letters bs) (add_one s)
+scan_first s b bs e = ap (λ t. cond t (scan (λ b. in_word (byte_kind b)) (s + 1) bs) s) e ∙ scan_count (λ b. in_word (byte_kind b)) (s + 1) bs ∙ ap (λ n. n + letters bs) (add-one s)
 
 drop_more : (text : List ℕ) (i n : ℕ) → drop n (drop i text) ≡ drop (i + n) text
 drop_more text i n = drop-drop n i text
@@ -111,7 +111,7 @@ pieces_on text s h w = go (in_word (byte_kind (get_or text s 0))) refl
 
     go : (t : Bool) → in_word (byte_kind (get_or text s 0)) ≡ t → cut s (drop s text) ≡ piece s (part_of text s (piece_end text s)) ∷ cut (piece_end text s) (drop (piece_end text s) text)
     go false e =
-        let p : piece_end text s ≡ suc s = inside ∙ ap (λ t. cond t (end_at text s) (s + 1)) e ∙ add_one s in
+        let p : piece_end text s ≡ suc s = inside ∙ ap (λ t. cond t (end_at text s) (s + 1)) e ∙ add-one s in
         let n : suc s - s ≡ 1 = omega arith in
         ap (cut s) rest ∙ cut_bracket s (get_or text s 0) (drop (suc s) text) w e
         ∙ ap (λ v. piece s v ∷ cut (suc s) (drop (suc s) text)) (sym (ap (λ l. take 1 l) rest) ∙ ap (λ k. take k (drop s text)) (sym n))

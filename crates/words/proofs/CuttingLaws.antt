@@ -3,14 +3,14 @@ use Prim.Native.Nat.{ℕ, zero, suc, ◌+◌, ◌-◌, ◌≤◌, ◌<◌}
 use mathlib.Core.Path.{◌≡◌}
 use mathlib.Core.Bool.{Bool, true, false, cond}
 use mathlib.Core.List.{List}
-use native.Mathlib.Numerals.{add_one}
+use native.Mathlib.Numerals.{add-one}
 use lib.ListN.{length, get_or, drop_of_length-le}
 use lib.Seq.{drop-cons}
 use Rattle.words.specs.Twins.Cutting.{scan, scan_at}
 
 pub scan_on : (f : ℕ → Bool) (s : List ℕ) (i : ℕ) → i < length s → f (get_or s i 0) ≡ true → scan_at f s i ≡ scan_at f s (i + 1)
 unfolding scan
-scan_on f s i h z = rw (drop-cons s i 0, z, add_one i)
+scan_on f s i h z = rw (drop-cons s i 0, z, add-one i)
 
 pub scan_stop : (f : ℕ → Bool) (s : List ℕ) (i : ℕ) → i < length s → f (get_or s i 0) ≡ false → scan_at f s i ≡ i
 unfolding scan

@@ -2,11 +2,11 @@
 use Prim.Native.Nat.{ℕ, zero, suc, ◌+◌, ◌≤◌, ◌<◌, zero-le, suc-le-suc}
 use mathlib.Core.Path.{◌≡◌, refl, ap, ap₂, subst, ◌∙◌, sym as inv}
 use mathlib.Core.Bool.{Bool, true, false, cond, ◌&&◌, not, true≢false, false≢true}
-use mathlib.Core.List.{List, [], ◌∷◌, ◌++◌, append_assoc, append_nil}
+use mathlib.Core.List.{List, [], ◌∷◌, ◌++◌, append_assoc, append-nil}
 use native.Mathlib.Omega.{arith}
 use native.Mathlib.Nat.{not-suc-le-zero, le_of_suc-le-suc}
 use lib.Dec.{eqb, ltb}
-use lib.ListN.{length, take, drop, length_append}
+use lib.ListN.{length, take, drop, length-append}
 use borrow.Author.Tests.{eq-eqb, ltb-true, ltb-false}
 use Rattle.language.specs.Bytes.{Byte, blank, bracket, digit, letter, mark, outside, byte_kind, is_blank, in_word}
 use Rattle.language.specs.Words.{Word, same}
@@ -106,7 +106,7 @@ place_out w (v ∷ vs) more l = go (same v w) l (place_out w vs more)
 
 -- what comes later stands behind
 firsts_grow : (f : Word → Bool) (ws : List Word) (ps : List Piece) → (more : List Word) × (firsts f ws ps ≡ ws ++ more)
-firsts_grow f ws [] = ([], inv (append_nil ws))
+firsts_grow f ws [] = ([], inv (append-nil ws))
 firsts_grow f ws (p ∷ ps) = go (λ vs. firsts_grow f vs ps) (f p.word && not (is_among p.word ws))
   where
     go : ((vs : List Word) → (more : List Word) × (firsts f vs ps ≡ vs ++ more)) → (t : Bool) → (more : List Word) × (firsts f (cond t (ws ++ (p.word ∷ [])) ws) ps ≡ ws ++ more)

@@ -4,10 +4,10 @@ use mathlib.Core.Path.{◌≡◌, refl, ap, ◌∙◌, sym}
 use mathlib.Core.Bool.{Bool, true, false, cond, ◌&&◌, ◌||◌, not}
 use mathlib.Core.List.{List, [], ◌∷◌}
 use native.Mathlib.Omega.{arith}
-use native.Mathlib.Numerals.{add_one}
+use native.Mathlib.Numerals.{add-one}
 use native.Mathlib.Nat.{mod-mod, mod-eq_of_lt, mod-add-div, add-mul-mod_self_left}
 use lib.Dec.{eqb, leb}
-use borrow.Author.Tests.{eq-eqb, ne_eqb, le-leb, lt-leb, eqb-true, eqb_false}
+use borrow.Author.Tests.{eq-eqb, ne_eqb, le-leb, lt-leb, eqb-true, eqb-false}
 use lib.ListN.{length, drop, get_or, length-drop, drop_of_length-le}
 use lib.Seq.{drop-cons, get_or-drop}
 use Rattle.language.specs.Bytes.{byte_kind, in_name, is_digit, within}
@@ -17,7 +17,7 @@ use Rattle.words.specs.Twins.Judged.{value_cell, hash_from}
 
 -- comparing
 pub begins_on : (v w : Word) (i : ℕ) → i < length v → i < length w → get_or v i 0 ≡ get_or w i 0 → begins (drop i v) (drop i w) ≡ begins (drop (i + 1) v) (drop (i + 1) w)
-begins_on v w i h k e = rw (add_one i, drop-cons v i 0, drop-cons w i 0, eq-eqb (get_or v i 0) (get_or w i 0) e)
+begins_on v w i h k e = rw (add-one i, drop-cons v i 0, drop-cons w i 0, eq-eqb (get_or v i 0) (get_or w i 0) e)
 
 pub begins_not : (v w : Word) (i : ℕ) → i < length v → i < length w → (get_or v i 0 ≡ get_or w i 0 → ⊥) → begins (drop i v) (drop i w) ≡ false
 begins_not v w i h k e = rw (drop-cons v i 0, drop-cons w i 0, ne_eqb (get_or v i 0) (get_or w i 0) e)
@@ -118,7 +118,7 @@ module _ (s : Word) (i : ℕ) where
     where
       one : (b : ℕ) (t : Bool) → eqb b 48 ≡ t → ((t && true) || not (eqb 48 b && true)) ≡ true
       one b true e = refl
-      one b false e = ap (λ t. not (t && true)) (ne_eqb 48 b (λ z. eqb_false b 48 e (sym z)))
+      one b false e = ap (λ t. not (t && true)) (ne_eqb 48 b (λ z. eqb-false b 48 e (sym z)))
 
       go : (w : Word) → length w ≡ 1 → all (λ b. is_digit (byte_kind b)) w ≡ true → is_numeral w ≡ true
       go [] n e = let z : ⊥ = omega arith in absurd z
@@ -160,7 +160,7 @@ abbrev pub value_in : Word → ℕ → ℕ → ℕ
 value_in s i v = value_from v (drop i s) % 65536
 
 pub value_on : (s : Word) (i v : ℕ) → i < length s → value_in s i v ≡ value_in s (i + 1) ((10 * v + (get_or s i 0 - 48)) % 65536)
-value_on s i v h = rw (add_one i, drop-cons s i 0) (sym (value_mod (10 * v + (get_or s i 0 - 48)) (drop (suc i) s)))
+value_on s i v h = rw (add-one i, drop-cons s i 0) (sym (value_mod (10 * v + (get_or s i 0 - 48)) (drop (suc i) s)))
 
 pub value_end : (s : Word) (i v : ℕ) → length s ≤ i → v < 65536 → value_in s i v ≡ v
 value_end s i v h l = rw (drop_of_length-le s h) (mod-eq_of_lt l)
@@ -196,7 +196,7 @@ module _ (s : Word) (i : ℕ) where
 
 -- hashes
 pub hash_on : (s : Word) (i h : ℕ) → i < length s → hash_from h (drop i s) ≡ hash_from ((31 * h + get_or s i 0) % 65536) (drop (i + 1) s)
-hash_on s i h l = rw (add_one i, drop-cons s i 0)
+hash_on s i h l = rw (add-one i, drop-cons s i 0)
 
 pub hash_end : (s : Word) (i h : ℕ) → length s ≤ i → hash_from h (drop i s) ≡ h
 hash_end s i h l = rw (drop_of_length-le s l)

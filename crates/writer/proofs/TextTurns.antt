@@ -4,7 +4,7 @@ use mathlib.Core.Path.{◌≡◌, refl, ap, ◌∙◌, sym}
 use mathlib.Core.Bool.{Bool, true, false, cond}
 use mathlib.Core.List.{List, [], ◌∷◌, ◌++◌, append_assoc}
 use native.Mathlib.Omega.{arith}
-use native.Mathlib.Numerals.{add_one}
+use native.Mathlib.Numerals.{add-one}
 use native.Mathlib.Decide.{dec_le}
 use lib.Dec.{ltb}
 use borrow.Author.Tests.{lt-ltb, le-ltb, ltb-true, ltb-false}
@@ -51,7 +51,7 @@ module _ (name : ℕ → List ℕ) (q : List ℕ) (i : ℕ) where
       let a : i < length q = omega arith in
       let b : suc i < length q = omega arith in
       let n : suc (suc i) ≡ i + 2 = omega arith in
-      rw (drop-cons q i 0 a, drop-cons q (suc i) 0 b, n, add_one i)
+      rw (drop-cons q i 0 a, drop-cons q (suc i) 0 b, n, add-one i)
 
 -- a line's inputs and output filled, by what each call left
 pub filled_line_lem : (l d : List ℕ) (end n : ℕ) (class e g : List ℕ) → end ≡ class_end l → class ≡ part 4 end l → n ≡ min (length class) 4096 → e ≡ (copied class 0 n d 0).cells → g ≡ sampled_cells n e →

@@ -3,7 +3,7 @@ use Prim.Native.Nat.{ℕ, ◌+◌, ◌-◌, ◌≤◌}
 use mathlib.Core.Path.{◌≡◌, refl, ap, ◌∙◌, sym as inv}
 use mathlib.Core.List.{◌∷◌}
 use native.Mathlib.Omega.{arith}
-use native.Mathlib.Numerals.{add_one}
+use native.Mathlib.Numerals.{add-one}
 use lib.ListN.{length, set}
 use lib.Seq.{sets}
 use Rattle.linking.specs.declared.code.Link.{Link}
@@ -48,7 +48,7 @@ loop-again c =
     let e = c.before.before.link_at.ensures in
     let w = cells_here a.code.now l.loop.j a.to (omega arith) (inv (ap (λ (k : Link). k.mark) e) ∙ c.if1.true) in
     let v = w ∙ ap (λ (x : ℕ). x ∷ cells_of a.code.now (a.to - (l.loop.j + 1)) (l.loop.j + 1)) (inv (ap (λ (k : Link). k.first) e)) in
-    (omega arith, omega (arith, ap length v), l.loop.invariant.2 ∙ ap (sets l.loop.heap l.loop.n) v ∙ ap (λ (x : ℕ). sets (set l.loop.heap l.loop.n c.before.before.link_at.result.first) x (cells_of a.code.now (a.to - (l.loop.j + 1)) (l.loop.j + 1))) (inv (add_one l.loop.n)))
+    (omega arith, omega (arith, ap length v), l.loop.invariant.2 ∙ ap (sets l.loop.heap l.loop.n) v ∙ ap (λ (x : ℕ). sets (set l.loop.heap l.loop.n c.before.before.link_at.result.first) x (cells_of a.code.now (a.to - (l.loop.j + 1)) (l.loop.j + 1))) (inv (add-one l.loop.n)))
 
 add-j-2 : tie.Need-overflow-add-j-2 invariant-loop decreases-loop
 add-j-2 c = search rules

@@ -1,6 +1,6 @@
 -- The first i cells are nought, the others are as they were.
 use mathlib.Core.Path.{◌≡◌, refl, ap, subst, ◌∙◌}
-use mathlib.Core.List.{List, ◌++◌, append_nil}
+use mathlib.Core.List.{List, ◌++◌, append-nil}
 use Prim.Native.Nat.{ℕ, ◌-◌, ◌≤◌, zero-le}
 use native.Mathlib.Nat.{le_antisymm}
 use native.Mathlib.Numerals.{add-one-le}
@@ -52,7 +52,7 @@ returns c =
     let at-loop = c.before in
     let s = at-loop.before.args.s.now in
     let e : at-loop.loop.i ≡ length s = le_antisymm at-loop.loop.invariant.0 c.loop-test.false ∙ at-loop.loop.invariant.3 in
-    at-loop.loop.invariant.1 ∙ ap (λ (n : ℕ). replicate n 0 ++ drop n s) e ∙ ap (λ (l : List ℕ). replicate (length s) 0 ++ l) (drop_of_length-le s {i = length s} (omega arith)) ∙ append_nil (replicate (length s) 0)
+    at-loop.loop.invariant.1 ∙ ap (λ (n : ℕ). replicate n 0 ++ drop n s) e ∙ ap (λ (l : List ℕ). replicate (length s) 0 ++ l) (drop_of_length-le s {i = length s} (omega arith)) ∙ append-nil (replicate (length s) 0)
 
 pub clear_spec : {M : Type 1} → statement M
 clear_spec =

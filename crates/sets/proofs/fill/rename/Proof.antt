@@ -3,7 +3,7 @@ use Prim.Native.Nat.{◌-◌, ◌≤◌, min}
 use mathlib.Core.Path.{◌≡◌, sym}
 use mathlib.Core.Logic.{⊎_elim}
 use native.Mathlib.Omega.{arith}
-use native.Mathlib.Numerals.{add_one}
+use native.Mathlib.Numerals.{add-one}
 use lib.ListN.{length, get_or, length-set}
 use lib.Dec.{eqb}
 use mathlib.Core.Bool.{cond}
@@ -58,7 +58,7 @@ loop-again c =
       search rules,
       search rules,
       rw length-set l.loop.invariant.2,
-      rw (e, l.loop.invariant.3, add_one i) (renamed_next a.x a.y i s (omega arith)),
+      rw (e, l.loop.invariant.3, add-one i) (renamed_next a.x a.y i s (omega arith)),
     )
 
 same_length : tie.Need-same-length invariant-loop decreases-loop

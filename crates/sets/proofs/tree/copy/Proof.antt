@@ -2,7 +2,7 @@
 use Prim.Native.Nat.{◌+◌, ◌-◌, ◌≤◌, ◌<◌}
 use mathlib.Core.Path.{◌≡◌, refl}
 use native.Mathlib.Omega.{arith}
-use native.Mathlib.Numerals.{add_one}
+use native.Mathlib.Numerals.{add-one}
 use lib.ListN.{length, drop, length-drop}
 use lib.Seq.{paste, paste-zero, paste-suc, get_or-drop}
 use borrow.Author.Tests.{le-leb, lt-leb}
@@ -79,7 +79,7 @@ loop-again c =
     let hs : l.loop.i < length (drop a.from a.src.now) = rw length-drop (omega arith) in (
       search rules,
       search rules,
-      rw (l.loop.invariant.2, ← (get_or-drop a.from a.src.now l.loop.i 0), add_one, paste-suc a.dst.now a.at (drop a.from a.src.now) l.loop.i 0 hd hs),
+      rw (l.loop.invariant.2, ← (get_or-drop a.from a.src.now l.loop.i 0), add-one, paste-suc a.dst.now a.at (drop a.from a.src.now) l.loop.i 0 hd hs),
     )
 
 same_length : tie.Need-same-length invariant-loop decreases-loop

@@ -1,6 +1,6 @@
 use borrow.Author.Tests.{lt-ltb, le-ltb}
 use Rattle.window.proofs.SinkLaws.{behind}
-use mathlib.Core.List.{append_nil}
+use mathlib.Core.List.{append-nil}
 use Rattle.window.specs.Twins.TreeText.{behind_leaf}
 use borrow.Author.Rules.{rules}
 use Rattle.window.proofs.tree.put_behind.Statement.{statement}
@@ -32,7 +32,7 @@ same-length-2 c = search rules
 
 returns-2 : tie.Need-returns-2
 unfolding behind_leaf
-returns-2 c = rw (← c.before.before.before.before.before.count-closings.ensures, le-ltb _ _ c.if1.false, append_nil) c.before.before.before.put-repeat.ensures
+returns-2 c = rw (← c.before.before.before.before.before.count-closings.ensures, le-ltb _ _ c.if1.false, append-nil) c.before.before.before.put-repeat.ensures
 
 pub put-behind-spec : {M : Type 1} → statement M
 put-behind-spec =
