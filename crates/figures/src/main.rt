@@ -7,6 +7,8 @@
 // and prints the title and what is printed (01, "Printing, and cases"); of a listing then the text with samples too, and under each sample what is printed of
 // its run: "The published evaluation gives the wanted output on it, in the line's number of steps, and so does the forward runner" (02, request 2). The lent
 // storages are full of garbage before each.
+#![tactic(auto)]
+
 ghost use Rattle.std.specs.Prelude.{◌≤◌, min, length};
 
 use cells::cell::byte;

@@ -1,4 +1,6 @@
 // Trees in one heap: a value is a range of it, and what is written is written at `used` and behind it.
+#![tactic(auto)]
+
 pub mod apply;
 pub mod configuration;
 pub mod contract;

@@ -20,6 +20,8 @@
 // `<17*A>` is what stands between `*` and `>` 17 times; in there `#` is the number of the time, from 1 on. Repetitions do not nest, and
 // `<`, `>`, `\` and, in a repetition, `#` themselves are written by their numbers. A text that is longer than the room for it is cut there,
 // which is over the limit of 01, "From the input". The text of cases is cut at 65,536 bytes.
+#![tactic(auto)]
+
 mod cases;
 mod notation;
 mod printer;

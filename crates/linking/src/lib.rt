@@ -1,5 +1,7 @@
 // The program linked: made once from the checked tokens, so that whoever runs or walks it searches for no definition, no name and no bracket's
 // end. specs/twins/Code.antt says what a linked token is, specs/twins/Linking.antt what the functions come to.
+#![tactic(auto)]
+
 pub mod code;
 mod expression;
 mod names;

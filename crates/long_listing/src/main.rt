@@ -1,5 +1,7 @@
 // The listing of prog.tsg and job.txt in data/, written as `ura` writes it. It has three pages, so that one that is lost, or that starts at
 // another byte, is seen in what is printed. stdout was made by another implementation, rust/reference.
+#![tactic(auto)]
+
 use cells::part::part;
 use pages::files::{JOB, PROGRAM, read_file};
 use pages::output::list_texts;

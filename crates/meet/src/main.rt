@@ -11,6 +11,8 @@
 // The first expression is the wanted one. A `?a` of a non-equality need not stand in an expression. At most 64 brackets are
 // open together, 1,024 symbols stand in a line and 4,096 cells in an expression; what goes beyond is broken there. The text
 // is cut at 65,536 bytes.
+#![tactic(auto)]
+
 mod printer;
 mod reader;
 

@@ -1,4 +1,6 @@
 // An answer told by numbers in lent storage, for callers that have no enums, and read back from there.
+#![tactic(auto)]
+
 pub mod list;
 mod numbers;
 pub mod run;

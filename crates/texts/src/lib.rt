@@ -1,4 +1,6 @@
 // A text read and checked into lent storage (01, "Texts", "From the input"): what texts mean is defined in the crate `language`,
 // and what the functions over storage come to in specs/.
+#![tactic(auto)]
+
 pub mod read_job;
 pub mod read_program;

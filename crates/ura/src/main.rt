@@ -8,6 +8,8 @@
 // Standard output has the listing or the run as 01, "Printing, and cases", has it, or the refusal, and nothing else. Standard error has what a person wants to know beside it:
 // why a file cannot be read ("A file that cannot be read counts as empty"), where a text is refused and for what, and what a listing that is cut or
 // stopped is not.
+#![tactic(auto)]
+
 mod arguments;
 mod explain;
 mod files;
