@@ -11,7 +11,7 @@ use Rattle.expressions.specs.Class.{IOClass}
 use Rattle.expressions.proofs.Numbers.{ClassNumbers}
 use Rattle.sets.specs.Cells.{cells}
 use Rattle.sets.proofs.CellLaws.{cells_nodes, cells_all_nodes, restriction_cells_nodes}
-use Rattle.language.specs.Bytes.{Verdict, unless, ◌orElse◌}
+use Rattle.language.specs.Bytes.{Verdict, unless, ◌or_else◌}
 use Rattle.language.specs.Words.{Word}
 use Rattle.language.specs.Tokens.{of_job, Token, symbols_of}
 use Rattle.language.specs.Reader.{Res, ok, refused}

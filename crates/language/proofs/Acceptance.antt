@@ -15,7 +15,7 @@ use Rattle.expressions.proofs.Tests.{and_both, eqb_same}
 use Rattle.language.specs.Program.{Param, pe, pa, same_param, Prog, find}
 use Rattle.language.specs.Scope.{Scope, is_in, is_atomic, in_scope, all_in_scope, atomic_in_scope, with_a, pair_scope, scope_of}
 use Rattle.language.specs.WellFormed.{fits, has_param, distinct_params, well_formed_term, well_formed_defs, binds_new, binds_new_all, admitted}
-use Rattle.language.specs.Bytes.{Refusal, Verdict, unless, ◌orElse◌, bytes_verdict}
+use Rattle.language.specs.Bytes.{Refusal, Verdict, unless, ◌or_else◌, bytes_verdict}
 use Rattle.language.specs.Words.{Word}
 use Rattle.language.specs.Tokens.{Text, of_program, of_job, tokens, symbols_of}
 use Rattle.language.specs.Reader.{Res, ok, refused, and_then, unless_fault, Reader}

@@ -17,7 +17,7 @@ use Rattle.language.specs.ProgramCheck.{program_verdict}
 use Rattle.language.specs.JobCheck.{Tool, job_verdict}
 use Rattle.language.specs.Tokens.{Kind, symbol, ename, aname, evariable, avariable, plain, Text, of_program, of_job, Token, tokens, symbols_of}
 use Rattle.language.specs.Reader.{Res, ok, refused, and_then, unless_fault, Reader, up_to}
-use Rattle.language.specs.Source.{Stand, SExp, symS, evarS, avarS, pair_s, eqa_s, consp_s, STerm, call_s, conditional_s, result_s, SParam, SDef, SProg, SJob, exp, exps, condition, term, params, prog_of, prog, neq_of, class}
+use Rattle.language.specs.Source.{Stand, SExp, symS, evarS, avarS, pair_s, eqa_s, consp_s, STerm, call_s, conditional_s, result_s, SParam, SDef, SProg, SJob, exp, exps, condition, term, params, functions, prog_of, prog, neq_of, class}
 use Rattle.language.specs.Grammar
 use Rattle.language.specs.Reading.{read_text, read_program, read_job, Reading, accepted, rejected, with_job, with_program, reading}
 use Rattle.language.proofs.VerdictNumbers.{Stated, OfVerdict, bytes_stated, program_stated, job_stated}
@@ -140,7 +140,7 @@ module _ (S : ℕ → Type 0) where
 
   pub program_reads : Bounds of_program (λ s. ProgNumbers S NameNumber (prog s)) Grammar.program
   unfolding Grammar.program
-  program_reads = bind_reads (definition_reads 1) (λ d x. bind_reads (definitions_reads 63) (λ ds h. give_reads _ ((x _).0, h _)))
+  program_reads = bind_reads (definition_reads 1) (λ d x. bind_reads (definitions_reads 63) (λ ds h. give_reads _ ((x (functions (d ∷ ds))).0, h (functions (d ∷ ds)))))
 
   -- of a job
   abbrev JobE : SExp → Type 0

@@ -129,7 +129,7 @@ tokens_numbered : (t : Text) (symbols ws : List Word) (i : ℕ) (ps : List Piece
 tokens_numbered t symbols ws i [] l = tt
 tokens_numbered t symbols ws i (p ∷ ps) l = (
   kind_number symbols (firsts is_other ws (p ∷ ps)) i p.word (λ e. omega (arith, place_bound is_other ws p ps (ap not e))) t (kind_of p.word) refl,
-  tokens_numbered t symbols _ (suc i) ps (longer (is_other p.word && not (is_among p.word ws))),
+  tokens_numbered t symbols (cond (is_other p.word && not (is_among p.word ws)) (ws ++ (p.word ∷ [])) ws) (suc i) ps (longer (is_other p.word && not (is_among p.word ws))),
 )
   where
     longer : (b : Bool) → length (cond b (ws ++ (p.word ∷ [])) ws) ≤ suc i

@@ -10,7 +10,7 @@ use Rattle.expressions.specs.Expression.{Exp}
 use Rattle.language.specs.Program.{Param, pe, pa, Prog, find}
 use Rattle.language.specs.Scope.{Scope, is_in, is_atomic, with_a, pair_scope, scope_of}
 use Rattle.language.specs.WellFormed.{has_param}
-use Rattle.language.specs.Bytes.{Verdict, fault, unless, ◌orElse◌, byte_kind, is_outside, outside_from, bytes_verdict}
+use Rattle.language.specs.Bytes.{Verdict, fault, unless, ◌or_else◌, byte_kind, is_outside, outside_from, bytes_verdict}
 use Rattle.language.specs.Source.{Stand, SExp, symS, evarS, avarS, pair_s, SCondition, eqa_s, consp_s, STerm, call_s, conditional_s, result_s, SParam, SDef, SProg, SJob, at_of, exp, exps, place_of, params, defs, functions, prog}
 use Rattle.language.specs.ProgramCheck.{params_twice, condition_twice, term_twice, defs_twice, new_e, new_a, term_rebound, defs_rebound, reach_e, reach_ea, reach_args, call_verdict, term_verdict, defs_verdict, program_verdict}
 use Rattle.language.specs.JobCheck.{Tool, lister, runner, ground_verdict, variables, kinds_verdict, inputs_verdict, side_fits, sides_verdict, at_most, bounds_verdict, job_verdict}

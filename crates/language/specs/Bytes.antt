@@ -83,9 +83,9 @@ abbrev pub unless : Bool → ℕ → ℕ → Verdict
 unless true n o = none
 unless false n o = fault n o
 
-infixr 20 ◌orElse◌
+infixr 20 ◌or_else◌
 -- of two checks the first that finds a fault
-abbrev pub ◌orElse◌ : Verdict → Verdict → Verdict
+abbrev pub ◌or_else◌ : Verdict → Verdict → Verdict
 none or_else v = v
 (some r) or_else v = some r
 

@@ -4,7 +4,7 @@ use Rattle.std.proofs.Math.Option.{Option, none, some}
 use Rattle.expressions.specs.Expression.{AtomicExp, sym, avar, Exp, atm, evar, pair}
 use Rattle.language.specs.Program.{Param, pe, pa}
 use Rattle.language.specs.Scope.{is_atomic}
-use Rattle.language.specs.Bytes.{Verdict, fault, unless, ◌orElse◌}
+use Rattle.language.specs.Bytes.{Verdict, fault, unless, ◌or_else◌}
 use Rattle.language.specs.Source.{Stand, SExp, symS, evarS, avarS, pair_s, SJob, at_of, exp, exps}
 
 -- the two tools that read a job

@@ -5,7 +5,7 @@ use Rattle.std.proofs.Math.Option.{Option, none, some}
 use Rattle.language.specs.Program.{Param, pe, pa, Prog, find}
 use Rattle.language.specs.Scope.{Scope, is_in, is_atomic, with_a, pair_scope, scope_of}
 use Rattle.language.specs.WellFormed.{has_param}
-use Rattle.language.specs.Bytes.{Verdict, unless, ◌orElse◌}
+use Rattle.language.specs.Bytes.{Verdict, unless, ◌or_else◌}
 use Rattle.language.specs.Source.{Stand, SExp, symS, evarS, avarS, pair_s, SCondition, eqa_s, consp_s, STerm, call_s, conditional_s, result_s, SParam, SDef, SProg, at_of, exp, place_of, params, defs, functions, prog}
 
 -- "6 ... a parameter defined twice (offset: the second name)"; `before` stand the earlier ones

@@ -14,7 +14,7 @@ use Rattle.expressions.specs.Class.{GroundPair}
 use Rattle.expressions.proofs.Predicates.{All, all_append}
 use Rattle.language.specs.Program.{Param, pe, pa}
 use Rattle.language.specs.Scope.{is_atomic}
-use Rattle.language.specs.Bytes.{txt, byte_kind, is_digit, Verdict, unless, ◌orElse◌, outside_from, bytes_verdict}
+use Rattle.language.specs.Bytes.{txt, byte_kind, is_digit, Verdict, unless, ◌or_else◌, outside_from, bytes_verdict}
 use Rattle.language.specs.Words.{Word, same, begins, fits, numeral_fit, value}
 use Rattle.language.specs.Tokens.{plain, kind_of, of_job, Token, tokens, symbols_of, names_of}
 use Rattle.language.specs.Reader.{Res, ok, refused, and_then, unless_fault, Reader, give, is, wrong, choose, up_to}
@@ -203,21 +203,21 @@ module _ (names : List Word) (n : ℕ) (c : GroundPair) where
     kinds_passed symbols others (pa x ∷ xs) [] cs f r = absurd f
     kinds_passed symbols others (pe x ∷ xs) (v ∷ vs) [] f r = absurd r
     kinds_passed symbols others (pe x ∷ xs) (v ∷ vs) (c ∷ cs) f r =
-        let k = kinds_passed symbols others xs vs cs f r.1 in (ap suc k.0, ap₂ ◌orElse◌ r.0.1 k.1)
+        let k = kinds_passed symbols others xs vs cs f r.1 in (ap suc k.0, ap₂ ◌or_else◌ r.0.1 k.1)
     kinds_passed symbols others (pa x ∷ xs) (atom z ∷ vs) [] f r = absurd r
     kinds_passed symbols others (pa x ∷ xs) (cons u v ∷ vs) cs f r = absurd f
     kinds_passed symbols others (pa x ∷ xs) (atom z ∷ vs) (c ∷ cs) f r =
         let k = kinds_passed symbols others xs vs cs f r.1 in
-        (ap suc k.0, ap₂ ◌orElse◌ (ap (λ (b : Bool). unless b 10 (at_of c)) (ap is_atomic r.0.0)) (ap₂ ◌orElse◌ r.0.1 k.1))
+        (ap suc k.0, ap₂ ◌or_else◌ (ap (λ (b : Bool). unless b 10 (at_of c)) (ap is_atomic r.0.0)) (ap₂ ◌or_else◌ r.0.1 k.1))
 
     passed : (symbols others : List Word) (xs : List Param) (t : SJob) → n ≤ 1000 → FitsInputs xs c.ins → JobAs symbols others t → job_verdict runner xs t ≡ none
     unfolding job_verdict
     passed symbols others xs t small f a =
         let k = kinds_passed symbols others xs c.ins t.ins f a.ins in
-        let e : inputs_verdict runner xs t ≡ none = ap₂ ◌orElse◌ (ap (λ (b : Bool). unless b 10 t.in_at) (eq-eqb (length xs) (length t.ins) k.0)) k.1 in
+        let e : inputs_verdict runner xs t ≡ none = ap₂ ◌or_else◌ (ap (λ (b : Bool). unless b 10 t.in_at) (eq-eqb (length xs) (length t.ins) k.0)) k.1 in
         let q : sides_verdict (exp t.out ∷ exps t.ins) t.neqs ≡ none = ap (sides_verdict (exp t.out ∷ exps t.ins)) a.neqs in
-        let u : bounds_verdict t ≡ none = ap₂ ◌orElse◌ (bound 1000 t.steps (omega (arith, a.steps))) (ap₂ ◌orElse◌ (bound 1000000 t.walk (omega (arith, a.walk))) (bound 256 t.table (omega (arith, a.table)))) in
-        ap₂ ◌orElse◌ e (ap₂ ◌orElse◌ q u)
+        let u : bounds_verdict t ≡ none = ap₂ ◌or_else◌ (bound 1000 t.steps (omega (arith, a.steps))) (ap₂ ◌or_else◌ (bound 1000000 t.walk (omega (arith, a.walk))) (bound 256 t.table (omega (arith, a.table)))) in
+        ap₂ ◌or_else◌ e (ap₂ ◌or_else◌ q u)
       where
         bound : (m : ℕ) (x : Stand) → x.num ≤ m → at_most m x ≡ none
         bound m x l = ap (λ (b : Bool). unless b 12 x.at) (le-leb x.num m l)
@@ -240,7 +240,7 @@ module _ (names : List Word) (n : ℕ) (c : GroundPair) where
         xs = params s.main.params
 
         bytes : bytes_verdict 8192 written_job ≡ none
-        bytes = ap₂ ◌orElse◌ (ap (λ (b : Bool). unless b 1 8192) (le-leb (length written_job) 8192 l)) (outside_none 0 written_job job_inside)
+        bytes = ap₂ ◌or_else◌ (ap (λ (b : Bool). unless b 1 8192) (le-leb (length written_job) 8192 l)) (outside_none 0 written_job job_inside)
 
         parsed : (x : Res (SJob × List Token)) → ReadOk before x → JobRead before (and_then x (λ r. unless_fault (job_verdict runner xs r.0) r.0))
         parsed (ok r) a = subst (λ (v : Verdict). JobRead before (unless_fault v r.0)) (inv (passed _ _ xs r.0 small f a)) a

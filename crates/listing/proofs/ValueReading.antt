@@ -10,7 +10,7 @@ use lib.ListN.{get_or}
 use borrow.Author.Tests.{not-true}
 use Rattle.expressions.specs.Expression.{Value, atom, cons, sym, Exp, atm, pair}
 use Rattle.expressions.proofs.Predicates.{All, all_append}
-use Rattle.language.specs.Bytes.{txt, byte_kind, is_outside, ◌orElse◌}
+use Rattle.language.specs.Bytes.{txt, byte_kind, is_outside, ◌or_else◌}
 use Rattle.language.specs.Words.{Word, same, all, fits, name_fit}
 use Rattle.language.specs.Tokens.{goes_on, place, symbol, of_job, Token, key_of, same_kind}
 use Rattle.language.specs.Reader.{and_then, Reader, ◌>>◌, judged, fit_if, is, roomed, the_in, wrong}
@@ -160,7 +160,7 @@ module _ (names : List Word) where
         then_takes of_job symbols others (the_takes of_job symbols others "cons")
         (bind_takes of_job symbols others (λ ys rest s p. tt) (tree_takes room u h.0) (λ c y.
         bind_takes of_job symbols others (λ ys rest s p. tt) (tree_takes room v h.1) (λ d w.
-        then_takes of_job symbols others {vs = []} (the_takes of_job symbols others ")") (give_takes of_job symbols others (pair_s o.at c d) (ap₂ pair y.0 w.0, ap₂ ◌orElse◌ y.1 w.1)))))))
+        then_takes of_job symbols others {vs = []} (the_takes of_job symbols others ")") (give_takes of_job symbols others (pair_s o.at c d) (ap₂ pair y.0 w.0, ap₂ ◌or_else◌ y.1 w.1)))))))
 
     pub datum_takes : (room : ℕ) (v : Value) → AtomsOf Nameable v → T Anything (value_words v) (ReadAs v) (datum room)
     unfolding datum

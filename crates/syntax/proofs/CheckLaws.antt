@@ -9,7 +9,7 @@ use native.Mathlib.Omega.{arith}
 use lib.Dec.{eqb, leb, ltb}
 use lib.ListN.{length, get_or}
 use borrow.Author.Tests.{eqb-true, eqb-false, eq-eqb, ne_eqb, lt-ltb, le-ltb}
-use Rattle.language.specs.Bytes.{txt, Refusal, unless, ◌orElse◌}
+use Rattle.language.specs.Bytes.{txt, Refusal, unless, ◌or_else◌}
 use Rattle.language.specs.Bytes as bytes
 use Rattle.language.specs.Tokens.{Kind, symbol, ename, aname, plain, tag, Text, of_program, of_job, Token, key_of}
 use Rattle.language.specs.Reader.{is, is_a}

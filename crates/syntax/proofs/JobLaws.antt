@@ -13,7 +13,7 @@ use lib.ListN.{length, get_or, set, length-set, replicate, length-replicate, get
 use lib.Seq.{get_or-set_same, get_or-set_other}
 use borrow.Author.Tests.{eq-eqb, ne_eqb, eqb-true}
 use Rattle.expressions.specs.Expression.{Exp}
-use Rattle.language.specs.Bytes.{txt, unless, ◌orElse◌}
+use Rattle.language.specs.Bytes.{txt, unless, ◌or_else◌}
 use Rattle.language.specs.Bytes as bytes
 use Rattle.language.specs.Words.{fits}
 use Rattle.language.specs.Tokens.{symbol, ename, aname, evariable, avariable, plain, of_job, Token, key_of}

@@ -10,7 +10,7 @@ use lib.ListN.{length, get_or, set, replicate, length-set, length-replicate}
 use lib.Seq.{get_or-set_same, get_or-set_other}
 use borrow.Author.Tests.{eqb-true, eq-eqb, ne_eqb, lt-ltb, le-ltb}
 use Rattle.expressions.proofs.Tests.{eqb_same}
-use Rattle.language.specs.Bytes.{unless, ◌orElse◌}
+use Rattle.language.specs.Bytes.{unless, ◌or_else◌}
 use Rattle.language.specs.Tokens.{Kind, symbol, ename, aname, tag, Token}
 use Rattle.language.specs.Reader.{is, is_a}
 use Rattle.language.specs.Program.{Param, pe, pa, Prog, find}

@@ -10,7 +10,7 @@ use lib.Dec.{eqb, leb, ltb, leb-zero, leb-suc-zero, leb-suc-suc}
 use lib.ListN.{length, get_or, set, length-set, length-replicate, length-append}
 use lib.Seq.{get_or-set_same, get_or-set_other}
 use borrow.Author.Tests.{lt-ltb}
-use Rattle.language.specs.Bytes.{unless, ◌orElse◌}
+use Rattle.language.specs.Bytes.{unless, ◌or_else◌}
 use Rattle.language.specs.Bytes as bytes
 use Rattle.language.specs.Tokens.{ename, aname, Token}
 use Rattle.language.specs.Reader.{is, is_a}

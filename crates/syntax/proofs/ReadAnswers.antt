@@ -9,7 +9,7 @@ use native.Mathlib.Numerals.{add-one}
 use lib.Dec.{leb, ltb}
 use lib.ListN.{length}
 use borrow.Author.Tests.{lt-ltb, le-ltb, leb-true}
-use Rattle.language.specs.Bytes.{byte_kind, is_outside, fault, outside_from, unless, ◌orElse◌, bytes_verdict}
+use Rattle.language.specs.Bytes.{byte_kind, is_outside, fault, outside_from, unless, ◌or_else◌, bytes_verdict}
 use Rattle.language.specs.Bytes as bytes
 use Rattle.language.specs.Words.{Word}
 use Rattle.language.specs.Tokens.{Text, Token, tokens}

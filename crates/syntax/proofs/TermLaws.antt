@@ -11,7 +11,7 @@ use lib.Dec.{eqb, leb, ltb}
 use lib.ListN.{length, get_or, get_or-eq_default}
 use borrow.Author.Tests.{eqb-true, ltb-true, lt-ltb, le-ltb}
 use Rattle.expressions.proofs.Tests.{and_both}
-use Rattle.language.specs.Bytes.{unless, ◌orElse◌}
+use Rattle.language.specs.Bytes.{unless, ◌or_else◌}
 use Rattle.language.specs.Bytes as bytes
 use Rattle.language.specs.Tokens.{ename, aname, plain, tag, of_program, Token}
 use Rattle.language.specs.Reader.{is, is_a}

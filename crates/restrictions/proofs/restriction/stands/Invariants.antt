@@ -1,0 +1,15 @@
+use Prim.Native.Nat.{◌+◌, ◌-◌, ◌*◌, ◌/◌, ◌≤◌, min}
+use mathlib.Core.Path.{◌≡◌}
+use mathlib.Core.Logic.{⊎_elim}
+use native.Mathlib.Omega.{arith}
+use lib.ListN.{length, drop, get_or}
+use Rattle.restrictions.specs.Twins.Restricting.{stands_cells}
+use Rattle.restrictions.proofs.RestrictionTurns.{either_written, either_turned, either_none, stands_turn, stands_end}
+use borrow.Author.Rules.{rules}
+use Rattle.restrictions.proofs.restriction.stands.Given as goal
+
+abbrev pub invariant-loop-i : goal.invariant-loop-i
+invariant-loop-i l = (l.count ≡ min l.n (length l.q / 2)) × (l.i ≤ l.count) × (stands_cells l.n l.x l.y l.q ≡ stands_cells (l.n - l.i) l.x l.y (drop (2 * l.i) l.q))
+
+abbrev pub decreases-loop-i : goal.decreases-loop-i
+decreases-loop-i l = l.count - l.i

@@ -1,0 +1,16 @@
+use mathlib.Core.Path.{◌≡◌, refl, ap, ◌∙◌, sym}
+use native.Mathlib.Omega.{arith}
+use Prim.Native.Nat.{◌+◌, ◌-◌, ◌*◌, ◌%◌, ◌<◌}
+use native.Mathlib.Nat.{mod-lt}
+use lib.ListN.{length, drop}
+use Rattle.words.specs.Twins.Judged.{hash_from}
+use Rattle.words.proofs.WordLaws.{hash_on, hash_end}
+use borrow.Author.Rules.{rules}
+use Rattle.words.proofs.kinds.hash_of.Given as goal
+
+abbrev pub invariant-loop-i : goal.invariant-loop-i
+invariant-loop-i l =
+    (hash_from 0 l.word ≡ hash_from l.h (drop l.i l.word)) × (l.h < 65536)
+
+abbrev pub decreases-loop-i : goal.decreases-loop-i
+decreases-loop-i l = length l.word - l.i
