@@ -5,7 +5,7 @@ ghost use Rattle.answers.specs.Headings.{listing_as, heading_of};
 use crate::list::{Answer, Word};
 
 // "First line: `whole`, `cut` or `stop21` to `stop23`, the lines, the transitions."
-#[derive(Drop)]
+#[derive(Clone, Copy)]
 pub struct FirstLine {
     pub word: Word,
     pub lines: usize,

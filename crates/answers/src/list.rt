@@ -7,7 +7,7 @@ ghost use Rattle.answers.specs.ListNumbers.{word_number, word_cut, number_of, le
 use crate::letters::{JOB, NEITHER, PROGRAM, SHORT};
 
 // The word of the first line.
-#[derive(Drop)]
+#[derive(Clone, Copy)]
 pub enum Word {
     Whole,
     Cut,
@@ -18,7 +18,7 @@ pub enum Word {
 
 // The listing's first word, how many lines stand in the answer storage and how many transitions were made; the refusal of a text (1 to 13)
 // with its offset; 20.
-#[derive(Drop)]
+#[derive(Clone, Copy)]
 pub enum Answer {
     Listed {
         word: Word,

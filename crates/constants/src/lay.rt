@@ -9,7 +9,7 @@ use linking::code::{CELL, NAME, NOTHING, TOKENS, link_at};
 use sets::tree::PAIR;
 
 // What is used of the heap, and the token behind the latest constant: those before it are parts of one.
-#[derive(Drop)]
+#[derive(Clone, Copy)]
 pub struct Laid {
     pub used: usize,
     pub skip: usize,

@@ -6,7 +6,7 @@ use restrictions::restriction::Restricted;
 use sets::fill::Filled;
 
 // How many entries there are, of them inputs and wanted outputs; what is used of the heap; the non-equalities; the term's place; the counter.
-#[derive(Drop)]
+#[derive(Clone, Copy)]
 pub struct Configuration {
     pub inputs: usize,
     pub outputs: usize,
@@ -25,7 +25,7 @@ pub enum Moved {
 }
 
 // Which of a condition's two branches there are: "A branch that contradicts is no transition."
-#[derive(Drop)]
+#[derive(Clone, Copy)]
 pub struct Branches {
     pub yes: bool,
     pub no: bool,

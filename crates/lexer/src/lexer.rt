@@ -13,7 +13,7 @@ use words::fit::value;
 use words::kinds::{fit_of, hash_of, key_of, kind_of};
 
 // A token in cells; whether it is a new symbol, or a new word that is none; and whether no reader passes it.
-#[derive(Drop)]
+#[derive(Clone, Copy)]
 pub struct Token {
     pub mark: u16,
     pub num: u16,
@@ -29,7 +29,7 @@ pub struct Token {
 const SYMBOLS_FROM: u16 = 4353;
 
 // How many symbols are known, and how many other words.
-#[derive(Drop)]
+#[derive(Clone, Copy)]
 pub struct Counts {
     pub found: u16,
     pub known: u16,

@@ -8,7 +8,7 @@ use meetings::class::Class;
 use meetings::line::put_line;
 
 // How many lines there are, their nodes, and the cells of the answer storage that they take.
-#[derive(Drop)]
+#[derive(Clone, Copy)]
 pub struct Lines {
     pub count: usize,
     pub nodes: usize,

@@ -29,7 +29,7 @@ pub const TEST: u16 = 5;
 pub const TOKENS: usize = 4097;
 
 // A token's four cells.
-#[derive(Drop)]
+#[derive(Clone, Copy)]
 pub struct Link {
     pub mark: u16,
     pub first: u16,

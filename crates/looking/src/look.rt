@@ -10,7 +10,7 @@ use values::value::{Valued, value};
 
 // Atom: an atom or a `?a` in this range. Pair: its head from `from` up to `mid`, its tail from there. Variable: a `?e`, which only a name's value is, so that
 // nothing was written. Large: the heap has no room for the value. `used` is what is used of the heap with the value in it.
-#[derive(Drop)]
+#[derive(Clone, Copy)]
 pub enum Tested {
     Atom {
         from: usize,

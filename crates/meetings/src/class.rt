@@ -11,7 +11,7 @@ use sets::fill::Filled;
 pub const NODES: usize = 4096;
 
 // How many entries the inputs and w are, what is used of the heap, the non-equalities; what is written stands from `floor` on.
-#[derive(Drop)]
+#[derive(Clone, Copy)]
 pub struct Class {
     pub entries: usize,
     pub used: usize,

@@ -8,14 +8,14 @@ use saving::head::Node;
 use saving::saved::Back;
 
 // A node, and the top of the saved configurations.
-#[derive(Drop)]
+#[derive(Clone, Copy)]
 pub struct Position {
     pub node: Node,
     pub top: usize,
 }
 
 // The job's N, W and T, and where the first saved configuration ends: a walk on top of another one has it above the other's.
-#[derive(Drop)]
+#[derive(Clone, Copy)]
 pub struct Bounds {
     pub steps: usize,
     pub walk: usize,

@@ -12,7 +12,7 @@ use verdicts::truth::both;
 use words::keys::{CALL, EQA, IF, OPEN};
 
 // How many more brackets may be opened, and how many names are in reach.
-#[derive(Drop)]
+#[derive(Clone, Copy)]
 pub(crate) struct Reach {
     pub room: usize,
     pub used: usize,

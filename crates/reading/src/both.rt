@@ -15,7 +15,7 @@ pub const DEFINITIONS: usize = 64;
 
 // Accepted: how many definitions the program has, how many symbols both texts have, where the job's parts end, N, W and T. Else the
 // refusal, of the program or of the job, or 20.
-#[derive(Drop)]
+#[derive(Clone, Copy)]
 pub enum Both {
     Accepted {
         count: usize,

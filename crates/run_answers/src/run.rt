@@ -5,7 +5,7 @@ ghost use Rattle.run_answers.specs.RunNumbers.{number_of, letter_of, offset_of, 
 use answers::letters::{JOB, NEITHER, PROGRAM, SHORT};
 
 // The run's steps and how many cells its value has; 21; "not within N"; the refusal of a text (1 to 13) with its offset; 20.
-#[derive(Drop)]
+#[derive(Clone, Copy)]
 pub enum Answer {
     Value { steps: usize, length: usize },
     Over,

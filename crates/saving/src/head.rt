@@ -14,7 +14,7 @@ pub const LENGTH: usize = 16384;
 pub const HEAD: usize = 9;
 
 // A node of the tree of configurations: its configuration, the steps and the choices that lead to it.
-#[derive(Drop)]
+#[derive(Clone, Copy)]
 pub struct Node {
     pub at: Configuration,
     pub steps: usize,

@@ -8,7 +8,7 @@ use checker::places::ahead;
 
 // The inputs stand from the fifth token up to `ins`, the output from `from` up to `out`, the non-equalities from `sides` up to
 // `neqs`: the three ends are those of closing brackets.
-#[derive(Drop)]
+#[derive(Clone, Copy)]
 pub struct JobEnds {
     pub ins: usize,
     pub from: usize,

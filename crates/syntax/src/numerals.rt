@@ -5,7 +5,7 @@ ghost use Rattle.syntax.specs.Twins.PartEnds.{job_numerals};
 use checker::places::{ahead, offset};
 use job_checker::check_job::numeral;
 
-#[derive(Drop)]
+#[derive(Clone, Copy)]
 pub struct Numerals {
     pub steps: usize,
     pub walk: usize,

@@ -10,7 +10,7 @@ use looking::look::{Tested, look};
 use pairs::branch::branches_of;
 
 // End: an expression, whose value is the output. Call: a call. Same: an `eqa?` of these two items. Test: a `cons?` on this.
-#[derive(Drop)]
+#[derive(Clone, Copy)]
 pub enum Asked {
     End,
     Call,

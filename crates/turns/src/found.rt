@@ -6,7 +6,7 @@ use cells::cell;
 use lines::line::Lines;
 
 // The transitions made, the lines, whether a path was cut.
-#[derive(Drop)]
+#[derive(Clone, Copy)]
 pub struct Found {
     pub count: usize,
     pub lines: Lines,

@@ -4,7 +4,7 @@ ghost use Rattle.std.specs.Prelude.{◌≡◌, ◌∷◌, [], replicate, length}
 ghost use Rattle.window.specs.Twins.Sink.{opening, sink, full, puts};
 
 // `skip` bytes of the text are still to be passed over; `at` of the window are written.
-#[derive(Drop)]
+#[derive(Clone, Copy)]
 pub struct Place {
     skip: usize,
     at: usize,
