@@ -19,7 +19,7 @@ use Rattle.language.proofs.Numbers.{TermNumbers, ParamNumbers, DefNumbers, ProgN
 use Rattle.semantics.specs.Lists.{All}
 use Rattle.semantics.specs.Environment.{Binds, here, there, update, bind_params, names}
 use Rattle.semantics.specs.Figure4.{Defines, first, later}
-use Rattle.semantics.specs.Figure10.{CAtomOf, CValueOf, CArgumentsOf, MkBind, left, right, Leads, equal, assume, exclude, is_pair, is_atomic as isAtomicRule, split_pair, split_atom, calls, Transition, transition, Derivation, here as arrived, there as onwards}
+use Rattle.semantics.specs.Figure10.{CAtomOf, CValueOf, CArgumentsOf, MkBind, left, right, Leads, equal, assume, exclude, is_pair, is_atomic as is_atomic_rule, split_pair, split_atom, calls, Transition, transition, Derivation, here as arrived, there as onwards}
 use Rattle.semantics.specs.Configuration.{ExpEnv, state, Configuration, with_env, start_with, start}
 use Rattle.semantics.specs.Tree.{Node, Line, meeting_at, listing}
 use Rattle.semantics.specs.Walk.{Walked}
@@ -69,7 +69,7 @@ module _ (S N : ℕ → Type 0) where
   leads_symbols g (exclude x y s t a b ha hb n) m v = (m.2, v, (atom_symbols ha m.0.0 v, atom_symbols hb m.0.1 v))
   leads_symbols {σ} g (is_pair c h t x s r u w e) m v =
       let q = value_symbols e m.0.0 v in (m.1, (update_all E t w (update h u σ.evars) q.1 (update_all E h u σ.evars q.0 v.0), v.1), tt)
-  leads_symbols {σ} g (isAtomicRule c h t x s r a e) m v = (m.2, (v.0, update_all A x a σ.avars (value_symbols e m.0.0 v) v.1), tt)
+  leads_symbols {σ} g (is_atomic_rule c h t x s r a e) m v = (m.2, (v.0, update_all A x a σ.avars (value_symbols e m.0.0 v) v.1), tt)
   leads_symbols {σ} g (split_pair c h t x s r n e) m v =
       (m.1, (update_all E t _ (update h _ σ.evars) tt (update_all E h _ σ.evars tt v.0), v.1), (tt, tt))
   leads_symbols {σ} g (split_atom c h t x s r n e) m v = (m.2, (v.0, update_all A x _ σ.avars tt v.1), tt)
