@@ -118,9 +118,9 @@ module _ (p : Prog) (is : List Value) where
   step_arrived (is_atom c h t x s r z k) = refl
   step_arrived (calls f ds d τ g k) = refl
 
-  over_ran : {t u : Term} {σ τ : ValueEnv} {m k : ℕ} (n s : ℕ) → ReachesIn p u τ m t σ → m ≤ n → NodesAt is τ u k → node_limit < k → run_from p is n s (arrived t σ) ≡ ran_over
+  over_ran : {u : Term} {τ : ValueEnv} {t : Term} {σ : ValueEnv} {m k : ℕ} (n s : ℕ) → ReachesIn p u τ m t σ → m ≤ n → NodesAt is τ u k → node_limit < k → run_from p is n s (arrived t σ) ≡ ran_over
   unfolding run_from
-  over_ran {t} {σ} n s here l c o = arrive_here n s (arrived t σ) (lt-ltb node_limit (nodes_next is (arrived t σ)) (omega (arith, o, counted_nodes c)))
+  over_ran {t = t} {σ = σ} n s here l c o = arrive_here n s (arrived t σ) (lt-ltb node_limit (nodes_next is (arrived t σ)) (omega (arith, o, counted_nodes c)))
   over_ran zero s (there m t v σ ρ d h) l c o = absurd (not-suc-le-zero l)
   over_ran (suc n) s (there m t v σ ρ d h) l c o = ap (run_from p is (suc n) s) (step_arrived d) ∙ pick (next_over is (go t σ)) (over_ran n (suc s) h (le_of_suc-le-suc l) c o)
     where

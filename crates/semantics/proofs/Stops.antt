@@ -29,11 +29,11 @@ use Rattle.semantics.proofs.Machine.{found, Visited, to_come, total, total_with,
 use Rattle.semantics.proofs.Tracing.{child, IfSome, each_child, Scoped, transition_child, terminal_successors, child_transition, successors_terminal, child_scoped, start_scoped}
 
 -- one transition more at the end of a derivation
-pub derivation_after : {p : Prog} {c d e : Configuration} {o : Option Bool} {m : ℕ} {bs : List Bool} → Derivation p d c m bs → Transition p d o e →
+pub derivation_after : {p : Prog} {d c e : Configuration} {o : Option Bool} {m : ℕ} {bs : List Bool} → Derivation p d c m bs → Transition p d o e →
     Derivation p e c (suc m) (bs ++ decisions o [])
-derivation_after {d} {e} {o} here t = there d e o zero [] t here
-derivation_after {o} (there c f none m bs s h) t = there c f none (suc m) (bs ++ decisions o []) s (derivation_after h t)
-derivation_after {o} (there c f (some b) m bs s h) t = there c f (some b) (suc m) (bs ++ decisions o []) s (derivation_after h t)
+derivation_after {d = d} {e = e} {o = o} here t = there d e o zero [] t here
+derivation_after {o = o} (there c f none m bs s h) t = there c f none (suc m) (bs ++ decisions o []) s (derivation_after h t)
+derivation_after {o = o} (there c f (some b) m bs s h) t = there c f (some b) (suc m) (bs ++ decisions o []) s (derivation_after h t)
 
 pub length_line : (ls : List Line) (l : Line) → length (ls ++ (l ∷ [])) ≡ suc (length ls)
 length_line [] l = refl

@@ -251,7 +251,7 @@ module _ (p : Prog) (wf : admitted p ≡ true) (P : CRPair state) where
   keeping : (t : Term) (k : ℕ) → WellScoped p t P.con.env → Keeping p (successors_of p P t k)
   unfolding successors_of
   keeping (result c) k w = tt
-  keeping (call f ds) k w = let u = scoped_call w in scoped_body wf (defines_find p f _ u.0) (bind_params_bound _ _ (find p f).params ds u.1)
+  keeping (call f ds) k w = let u = scoped_call w in scoped_body wf (defines_find p f _ u.0) (bind_params_bound _ (apply_atomic (subst_of_env P.con.env)) (find p f).params ds u.1)
   keeping (conditional (eqa x y) s t) k w =
       let u = scoped_eqa w in
       let sp = split_atomic (apply_atomic (subst_of_env P.con.env) (atom_of x)) (apply_atomic (subst_of_env P.con.env) (atom_of y)) in
@@ -266,4 +266,4 @@ start_scoped p j c wf f e = subst (IfSome (Scoped p)) e (pick (simplify j.neqs))
   where
     pick : (r : Option Restriction) → IfSome (Scoped p) (start_with p j r)
     pick none = tt
-    pick (some qs) = scoped_start wf (bind_params_bound _ _ (find p 0).params j.con.ins f)
+    pick (some qs) = scoped_start wf (bind_params_bound (λ c. c) (λ x. x) (find p 0).params j.con.ins f)
