@@ -9,7 +9,7 @@ use Rattle.expressions.specs.Expression.{AtomicExp, sym, avar, Exp, atm, evar, p
 use Rattle.expressions.specs.Restriction.{NonEquality, Restriction, simplify}
 use Rattle.expressions.specs.Contraction.{CRPair, Contraction, bind_e, bind_a}
 use Rattle.expressions.specs.Class.{IOClass}
-use Rattle.expressions.specs.Intersection.{meeting, disagreement, Intersected, common, tooLarge, unify, intersect, nodes_meeting}
+use Rattle.expressions.specs.Intersection.{meeting, disagreement, Intersected, common, too_large, unify, intersect, nodes_meeting}
 
 abbrev neq : AtomicExp → AtomicExp → NonEquality
 neq x y = record { left = x; right = y }
@@ -40,6 +40,6 @@ abbrev limit : ℕ → CRPair meeting → Bool
 limit n P = ltb n (nodes_meeting P)
 
 limited : (intersect (limit 11) (met (evar 2)) ≡ common (record { con = record { ins = atm (avar 1) ∷ []; out = pair (atm (avar 1)) (atm (sym 0)) }; neqs = (met (evar 2)).neqs })) ×
-    (intersect (limit 10) (met (evar 2)) ≡ tooLarge) × (intersect (limit 8) (met (evar 2)) ≡ tooLarge)
+    (intersect (limit 10) (met (evar 2)) ≡ too_large) × (intersect (limit 8) (met (evar 2)) ≡ too_large)
 unfolding unify
 limited = (refl, refl, refl)

@@ -9,7 +9,7 @@ use Rattle.expressions.specs.Restriction.{Restriction, simplify, add, subst_rest
 use Rattle.expressions.specs.Contraction.{Construction, CRPair, InConcretization, Contraction, identity, contra, contract}
 use Rattle.expressions.specs.Class.{GroundPair, IOClass}
 use Rattle.expressions.specs.Split.{take_numbers, split_atomic, split_exp, InContracted, Perfect}
-use Rattle.expressions.specs.Intersection.{meeting, GroundMeeting, Intersected, common, disjoint, tooLarge, NodeLimit, unify, bindings_enough, intersect, no_limit}
+use Rattle.expressions.specs.Intersection.{meeting, GroundMeeting, Intersected, common, disjoint, too_large, NodeLimit, unify, bindings_enough, intersect, no_limit}
 use Rattle.expressions.proofs.Filling.{ground_apply, apply_compose, Lawful}
 use Rattle.expressions.proofs.Simplification.{simplify_complete, Consistent, consistent_satisfiable, simplify_consistent}
 use Rattle.expressions.proofs.KeptOrder.{Subsequence, simplify_order}
@@ -105,7 +105,7 @@ intersection_empty P c = ((λ e g i. intersect_disjoint no_limit P e i.θ i.sat 
   where
     pick : ((g : GroundPair) → InBoth P g → ⊥) → (r : Intersected) → intersect no_limit P ≡ r → r ≡ disjoint
     pick h disjoint e = refl
-    pick h tooLarge e = absurd (unlimited_fits P e)
+    pick h too_large e = absurd (unlimited_fits P e)
     pick h (common Q) e = let w = consistent_inhabited Q ((intersect_unified no_limit P Q e).consistent c) in absurd (h w.0 ((intersection_exact no_limit P Q e w.0).0 w.1))
 
 -- "21 .. after a binding": a limit of nodes stops an intersection and changes no answer

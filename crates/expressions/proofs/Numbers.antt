@@ -9,7 +9,7 @@ use Rattle.expressions.specs.Substitution.{apply_atomic, apply, apply_all, subst
 use Rattle.expressions.specs.Restriction.{NonEquality, Restriction, same_atomic, Kind, contradiction, redundant, kept, kind, keep_or_drop, simplify_after, simplify, apply_non_equality}
 use Rattle.expressions.specs.Contraction.{CRPair, Contraction, identity, contra, bind_e, bind_a, non_equal, subst_of, contract_restriction, apply_pair, contract, mk_bind, equality_contraction}
 use Rattle.expressions.specs.Class.{IOClass}
-use Rattle.expressions.specs.Intersection.{meeting, occurs, bind_unless_occurs, first, disagreement, Intersected, common, disjoint, tooLarge, NodeLimit, unless_over, after_binding, unify_step, unify, bindings_enough, intersect}
+use Rattle.expressions.specs.Intersection.{meeting, occurs, bind_unless_occurs, first, disagreement, Intersected, common, disjoint, too_large, NodeLimit, unless_over, after_binding, unify_step, unify, bindings_enough, intersect}
 use Rattle.expressions.proofs.Predicates.{All, all_append, OfOption}
 
 -- simplification keeps non-equalities or drops them
@@ -146,7 +146,7 @@ module _ (S N : ℕ → Type 0) where
   abbrev pub IntersectedNumbers : Intersected → Type 0
   IntersectedNumbers (common Q) = ClassNumbers Q
   IntersectedNumbers disjoint = Unit {0}
-  IntersectedNumbers tooLarge = Unit {0}
+  IntersectedNumbers too_large = Unit {0}
 
   module _ (over : NodeLimit) where
     unless_over_lem : (f : CRPair meeting → Intersected) (P : CRPair meeting) (t : Bool) → IntersectedNumbers (f P) → IntersectedNumbers (unless_over f P t)

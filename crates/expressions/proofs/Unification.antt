@@ -11,7 +11,7 @@ use Rattle.expressions.specs.Substitution.{GroundSubst, ground_exp, Substitution
 use Rattle.expressions.specs.Restriction.{Restriction, Satisfies, simplify, subst_restriction}
 use Rattle.expressions.specs.Contraction.{CRPair, Contraction, identity, contra, bind_e, bind_a, non_equal, subst_of, contract_restriction, apply_pair, contract}
 use Rattle.expressions.specs.Class.{IOPair, apply_io, ground_io, IOClass}
-use Rattle.expressions.specs.Intersection.{Meeting, meeting, disagreement, Intersected, common, disjoint, tooLarge, NodeLimit, unless_over, after_binding, unify_step, unify, bindings_enough, intersect, no_limit}
+use Rattle.expressions.specs.Intersection.{Meeting, meeting, disagreement, Intersected, common, disjoint, too_large, NodeLimit, unless_over, after_binding, unify_step, unify, bindings_enough, intersect, no_limit}
 use Rattle.expressions.proofs.Filling.{ground_apply, ground_io_apply, apply_compose, apply_io_compose, apply_io_id, compose_ground_compose, Holds, holds_compose}
 use Rattle.expressions.proofs.Simplification.{Consistent, contract_restriction_sound, contract_restriction_complete, contract_restriction_consistent}
 use Rattle.expressions.proofs.Combination.{subst_subst, Substitutes, contract_substitutes, contract_simplified}
@@ -35,7 +35,7 @@ pub record Unified (P : CRPair meeting) (Q : IOClass) : Type 0 where
 abbrev Sound : CRPair meeting → Intersected → Type 0
 Sound P (common Q) = Unified P Q
 Sound P disjoint = Unit {0}
-Sound P tooLarge = Unit {0}
+Sound P too_large = Unit {0}
 
 binding_sound : (over : NodeLimit) (f : CRPair meeting → Intersected) → ((Q : CRPair meeting) → Sound Q (f Q)) → (P : CRPair meeting) (κ : Contraction) → Substitutes κ →
     Sound P (after_binding over f (contract κ P))
@@ -44,7 +44,7 @@ binding_sound over f ih P κ su = pick (contract_restriction κ P.neqs) refl
   where
     lift : (qs : Restriction) → contract_restriction κ P.neqs ≡ some qs → (r : Intersected) → Sound (bound (subst_of κ) qs P) r → Sound P r
     lift qs e disjoint u = tt
-    lift qs e tooLarge u = tt
+    lift qs e too_large u = tt
     lift qs e (common Q) u = record {
       s = compose (subst_of κ) u.s;
       con = u.con ∙ apply_io_compose (subst_of κ) u.s P.con.io;
@@ -156,7 +156,7 @@ more_fuel over n P l = let b = both_nodes P.con in unify_fuel over n (bindings_e
 abbrev Found : GroundSubst → CRPair meeting → Intersected → Type 0
 Found θ P (common Q) = Satisfies θ Q.neqs × (ground_io θ Q.con ≡ ground_io θ P.con.io)
 Found θ P disjoint = ⊥
-Found θ P tooLarge = ⊥
+Found θ P too_large = ⊥
 
 binding_found : (θ : GroundSubst) (f : CRPair meeting → Intersected) (P : CRPair meeting) → Satisfies θ P.neqs → ground_exp θ P.con.io.out ≡ ground_exp θ P.con.output →
     (κ : Contraction) → Holds κ θ →
@@ -177,7 +177,7 @@ binding_found θ f P h g κ hκ ih =
     lift : (qs : Restriction) (r : Intersected) → Found θ (bound (subst_of κ) qs P) r → Found θ P r
     lift qs (common Q) u = (u.0, u.1 ∙ same_io P.con.io)
     lift qs disjoint u = u
-    lift qs tooLarge u = u
+    lift qs too_large u = u
 
 unify_complete : (n : ℕ) (vs : List Var) (P : CRPair meeting) → length vs < n → Covers vs P.con.io.out → Covers vs P.con.output →
     (θ : GroundSubst) → Satisfies θ P.neqs → ground_exp θ P.con.io.out ≡ ground_exp θ P.con.output → Found θ P (unify no_limit n P)
@@ -213,13 +213,13 @@ intersect_complete P θ h g = pick (intersect no_limit P) refl (found P θ h g)
         (Q : IOClass) × (intersect no_limit P ≡ common Q) × Satisfies θ Q.neqs × (ground_io θ Q.con ≡ ground_io θ P.con.io)
     pick (common Q) e f = (Q, e, f.0, f.1)
     pick disjoint e f = absurd f
-    pick tooLarge e f = absurd f
+    pick too_large e f = absurd f
 
 -- Without a limit nothing is too large.
 abbrev Fits : Intersected → Type 0
 Fits (common Q) = Unit {0}
 Fits disjoint = Unit {0}
-Fits tooLarge = ⊥
+Fits too_large = ⊥
 
 unify_fits : (n : ℕ) (P : CRPair meeting) → Fits (unify no_limit n P)
 unfolding unify
@@ -237,14 +237,14 @@ unify_fits (suc n) P = step (disagreement P.con.io.out P.con.output) (λ Q. unif
     step (bind_e i d) ih = binding (contract (bind_e i d) P) ih
     step (bind_a i x) ih = binding (contract (bind_a i x) P) ih
 
-pub unlimited_fits : (P : CRPair meeting) → intersect no_limit P ≡ tooLarge → ⊥
+pub unlimited_fits : (P : CRPair meeting) → intersect no_limit P ≡ too_large → ⊥
 unlimited_fits P e = subst Fits e (unify_fits (bindings_enough P.con) P)
 
 -- Within the limit, the answer is the unlimited one.
 abbrev Within : Intersected → Intersected → Type 0
 Within (common Q) r = r ≡ common Q
 Within disjoint r = r ≡ disjoint
-Within tooLarge r = Unit {0}
+Within too_large r = Unit {0}
 
 unless_within : (over : NodeLimit) (f g : CRPair meeting → Intersected) (P : CRPair meeting) → Within (f P) (g P) → (t : Bool) → Within (unless_over f P t) (g P)
 unless_within over f g P w true = tt

@@ -63,14 +63,14 @@ nodes_meeting P = nodes_io P.con.io + nodes P.con.output + nodes_restriction P.n
 -- the class that is left, or nothing, or over the limit of nodes
 pub data Intersected : Type 0 where
   common : IOClass → Intersected
-  disjoint tooLarge : Intersected
+  disjoint too_large : Intersected
 
 -- the limit of nodes is a test: no limit is the test that nothing passes
 abbrev pub NodeLimit : Type 0
 NodeLimit = CRPair meeting → Bool
 
 abbrev pub unless_over : (CRPair meeting → Intersected) → CRPair meeting → Bool → Intersected
-unless_over f P true = tooLarge
+unless_over f P true = too_large
 unless_over f P false = f P
 
 -- "a binding is tested for contradiction before 21"

@@ -16,7 +16,7 @@ use Rattle.semantics.specs.Evaluate.{ground_of, Next, end, go, step, start_term,
 use Rattle.semantics.specs.Embedding.{embed}
 use Rattle.semantics.proofs.EmbeddedStates.{embed_env}
 use Rattle.semantics.specs.Configuration.{ExpEnv, subst_of_env, Configuration}
-use Rattle.semantics.specs.Runner.{Ran, value, ranOver, notWithin, nodes_value, nodes_inputs, at_result, nodes_next, run_from, runner}
+use Rattle.semantics.specs.Runner.{Ran, value, ran_over, not_within, nodes_value, nodes_inputs, at_result, nodes_next, run_from, runner}
 use Rattle.semantics.proofs.Environments.{FitsInputs}
 use Rattle.semantics.proofs.Evaluation.{start_scoped}
 use Rattle.semantics.proofs.Forward.{apply_embed}
@@ -46,11 +46,11 @@ use Rattle.forward.proofs.TurnLaws.{result_linked_lem, Running, TurnMeans, over_
 -- What a run comes to: an output that was over has been written in part.
 abbrev pub RanMeans : List ℕ → Ran → RanAnswer → Type 0
 RanMeans d (value k v) w = w ≡ ran_answer (RanValue k (nodes_value v)) (cells (embed v) ++ drop (nodes_value v) d)
-RanMeans d ranOver w = (w.ran ≡ RanOver) × (length w.answer ≡ length d)
-RanMeans d notWithin w = w ≡ ran_answer NotWithin d
+RanMeans d ran_over w = (w.ran ≡ RanOver) × (length w.answer ≡ length d)
+RanMeans d not_within w = w ≡ ran_answer NotWithin d
 
 module _ (p : Prog) (is : List Value) where
-  from_over : (n s : ℕ) (x : Next) → 4096 < nodes_next is x → run_from p is n s x ≡ ranOver
+  from_over : (n s : ℕ) (x : Next) → 4096 < nodes_next is x → run_from p is n s x ≡ ran_over
   unfolding run_from
   from_over zero s x l = rw (lt-ltb 4096 (nodes_next is x) l)
   from_over (suc n) s x l = rw (lt-ltb 4096 (nodes_next is x) l)
@@ -60,12 +60,12 @@ module _ (p : Prog) (is : List Value) where
   from_end zero s v l = rw (le-ltb 4096 (nodes_inputs is + nodes_value v) l)
   from_end (suc n) s v l = rw (le-ltb 4096 (nodes_inputs is + nodes_value v) l)
 
-  from_go : (s : ℕ) (t : Term) (σ : ValueEnv) → nodes_next is (go t σ) ≤ 4096 → (run_from p is zero s (go t σ) ≡ notWithin) × ((n : ℕ) → run_from p is (suc n) s (go t σ) ≡ run_from p is n (suc s) (at_result p (step p t σ)))
+  from_go : (s : ℕ) (t : Term) (σ : ValueEnv) → nodes_next is (go t σ) ≤ 4096 → (run_from p is zero s (go t σ) ≡ not_within) × ((n : ℕ) → run_from p is (suc n) s (go t σ) ≡ run_from p is n (suc s) (at_result p (step p t σ)))
   unfolding run_from
   from_go s t σ l = (rw (le-ltb 4096 (nodes_next is (go t σ)) l), λ n. rw (le-ltb 4096 (nodes_next is (go t σ)) l))
 
   -- "21 .. at the start"
-  pub runner_over : (steps : ℕ) → 4096 < nodes_next is (go (start_term p) (start_env p is)) → runner p steps is ≡ ranOver
+  pub runner_over : (steps : ℕ) → 4096 < nodes_next is (go (start_term p) (start_env p is)) → runner p steps is ≡ ran_over
   unfolding runner
   runner_over steps l = from_over steps 0 (go (start_term p) (start_env p is)) l
 

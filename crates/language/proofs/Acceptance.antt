@@ -19,7 +19,7 @@ use Rattle.language.specs.Bytes.{Refusal, Verdict, unless, ◌or_else◌, bytes_
 use Rattle.language.specs.Words.{Word}
 use Rattle.language.specs.Tokens.{Text, of_program, of_job, tokens, symbols_of}
 use Rattle.language.specs.Reader.{Res, ok, refused, and_then, unless_fault, Reader}
-use Rattle.language.specs.Source.{SExp, symS, evarS, avarS, pair_s, eqa_s, consp_s, STerm, call_s, conditional_s, result_s, SParam, SDef, SProg, SJob, exp, exps, place_of, term, params, defs, functions, prog_of, prog, class}
+use Rattle.language.specs.Source.{SExp, sym_s, evar_s, avar_s, pair_s, eqa_s, consp_s, STerm, call_s, conditional_s, result_s, SParam, SDef, SProg, SJob, exp, exps, place_of, term, params, defs, functions, prog_of, prog, class}
 use Rattle.language.specs.Grammar.{program, job_text}
 use Rattle.language.specs.ProgramCheck.{params_twice, condition_twice, term_twice, defs_twice, new_e, new_a, term_rebound, defs_rebound, reach_e, reach_ea, reach_args, call_verdict, term_verdict, defs_verdict, program_verdict}
 use Rattle.language.specs.JobCheck.{Tool, runner, ground_verdict, variables, kinds_verdict, inputs_verdict, sides_verdict, at_most, bounds_verdict, job_verdict}
@@ -65,9 +65,9 @@ params_distinct before (x ∷ xs) e =
 
 -- 8 and 9
 reach_in : (sc : Scope) (c : SExp) → reach_e sc c ≡ none → in_scope sc (exp c) ≡ true
-reach_in sc (symS z) e = refl
-reach_in sc (evarS x) e = passes (is_in x.num sc.evars) 9 x.at e
-reach_in sc (avarS x) e = passes (is_in x.num sc.avars) 9 x.at e
+reach_in sc (sym_s z) e = refl
+reach_in sc (evar_s x) e = passes (is_in x.num sc.evars) 9 x.at e
+reach_in sc (avar_s x) e = passes (is_in x.num sc.avars) 9 x.at e
 reach_in sc (pair_s o c d) e = let w = no_fault (reach_e sc c) (reach_e sc d) e in both (reach_in sc c w.0) (reach_in sc d w.1)
 
 atomic_in : (sc : Scope) (c : SExp) → reach_ea sc c ≡ none → atomic_in_scope sc (exp c) ≡ true
@@ -160,9 +160,9 @@ kinds_fit tool (pa x ∷ xs) (c ∷ cs) l e =
 
 -- 10, in the runner: no variable, so that all ground_exp substitutions agree
 ground_same : (c : SExp) → ground_verdict c ≡ none → (θ φ : GroundSubst) → ground_exp θ (exp c) ≡ ground_exp φ (exp c)
-ground_same (symS z) e θ φ = refl
-ground_same (evarS x) e θ φ = absurd (some-ne-none _ e)
-ground_same (avarS x) e θ φ = absurd (some-ne-none _ e)
+ground_same (sym_s z) e θ φ = refl
+ground_same (evar_s x) e θ φ = absurd (some-ne-none _ e)
+ground_same (avar_s x) e θ φ = absurd (some-ne-none _ e)
 ground_same (pair_s o c d) e θ φ = let w = no_fault (ground_verdict c) (ground_verdict d) e in ap₂ cons (ground_same c w.0 θ φ) (ground_same d w.1 θ φ)
 
 inputs_ground : (xs : List Param) (cs : List SExp) → length xs ≡ length cs → kinds_verdict runner xs cs ≡ none → (θ φ : GroundSubst) → ground_all θ (exps cs) ≡ ground_all φ (exps cs)

@@ -17,7 +17,7 @@ use Rattle.language.specs.ProgramCheck.{program_verdict}
 use Rattle.language.specs.JobCheck.{Tool, job_verdict}
 use Rattle.language.specs.Tokens.{Kind, symbol, ename, aname, evariable, avariable, plain, Text, of_program, of_job, Token, tokens, symbols_of}
 use Rattle.language.specs.Reader.{Res, ok, refused, and_then, unless_fault, Reader, up_to}
-use Rattle.language.specs.Source.{Stand, SExp, symS, evarS, avarS, pair_s, eqa_s, consp_s, STerm, call_s, conditional_s, result_s, SParam, SDef, SProg, SJob, exp, exps, condition, term, params, functions, prog_of, prog, neq_of, class}
+use Rattle.language.specs.Source.{Stand, SExp, sym_s, evar_s, avar_s, pair_s, eqa_s, consp_s, STerm, call_s, conditional_s, result_s, SParam, SDef, SProg, SJob, exp, exps, condition, term, params, functions, prog_of, prog, neq_of, class}
 use Rattle.language.specs.Grammar
 use Rattle.language.specs.Reading.{read_text, read_program, read_job, Reading, accepted, rejected, with_job, with_program, reading}
 use Rattle.language.proofs.VerdictNumbers.{Stated, OfVerdict, bytes_stated, program_stated, job_stated}
@@ -86,8 +86,8 @@ module _ (S : ℕ → Type 0) where
   ProgramD ds = (fs : List ℕ) → ProgNumbers S NameNumber (prog_of fs ds)
 
   leaf_reads : Bounds of_program ProgramE Grammar.leaf
-  leaf_reads = or_word_reads of_program NameNumber symbol symS _ (λ x n. n)
-      (or_word_reads of_program NameNumber ename evarS _ (λ x n. n) (or_word_reads of_program NameNumber aname avarS _ (λ x n. n) wrong_reads))
+  leaf_reads = or_word_reads of_program NameNumber symbol sym_s _ (λ x n. n)
+      (or_word_reads of_program NameNumber ename evar_s _ (λ x n. n) (or_word_reads of_program NameNumber aname avar_s _ (λ x n. n) wrong_reads))
 
   expr_reads : (room : ℕ) → Bounds of_program ProgramE (Grammar.expr room)
   unfolding Grammar.expr
@@ -147,8 +147,8 @@ module _ (S : ℕ → Type 0) where
   JobE c = ExpNumbers S VariableNumber (exp c)
 
   leaf_d_reads : Bounds of_job JobE Grammar.leaf_d
-  leaf_d_reads = or_word_reads of_job VariableNumber symbol symS _ (λ x n. n)
-      (or_word_reads of_job VariableNumber evariable evarS _ (λ x n. n) (or_word_reads of_job VariableNumber avariable avarS _ (λ x n. n) wrong_reads))
+  leaf_d_reads = or_word_reads of_job VariableNumber symbol sym_s _ (λ x n. n)
+      (or_word_reads of_job VariableNumber evariable evar_s _ (λ x n. n) (or_word_reads of_job VariableNumber avariable avar_s _ (λ x n. n) wrong_reads))
 
   datum_reads : (room : ℕ) → Bounds of_job JobE (Grammar.datum room)
   unfolding Grammar.datum

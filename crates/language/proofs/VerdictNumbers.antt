@@ -11,7 +11,7 @@ use Rattle.language.specs.Program.{Param, pe, pa, Prog, find}
 use Rattle.language.specs.Scope.{Scope, is_in, is_atomic, with_a, pair_scope, scope_of}
 use Rattle.language.specs.WellFormed.{has_param}
 use Rattle.language.specs.Bytes.{Verdict, fault, unless, ◌or_else◌, byte_kind, is_outside, outside_from, bytes_verdict}
-use Rattle.language.specs.Source.{Stand, SExp, symS, evarS, avarS, pair_s, SCondition, eqa_s, consp_s, STerm, call_s, conditional_s, result_s, SParam, SDef, SProg, SJob, at_of, exp, exps, place_of, params, defs, functions, prog}
+use Rattle.language.specs.Source.{Stand, SExp, sym_s, evar_s, avar_s, pair_s, SCondition, eqa_s, consp_s, STerm, call_s, conditional_s, result_s, SParam, SDef, SProg, SJob, at_of, exp, exps, place_of, params, defs, functions, prog}
 use Rattle.language.specs.ProgramCheck.{params_twice, condition_twice, term_twice, defs_twice, new_e, new_a, term_rebound, defs_rebound, reach_e, reach_ea, reach_args, call_verdict, term_verdict, defs_verdict, program_verdict}
 use Rattle.language.specs.JobCheck.{Tool, lister, runner, ground_verdict, variables, kinds_verdict, inputs_verdict, side_fits, sides_verdict, at_most, bounds_verdict, job_verdict}
 
@@ -95,9 +95,9 @@ all_rebound_stated (d ∷ ds) =
 
 -- 7, 8, 9
 reach_stated : (sc : Scope) (c : SExp) → OfVerdict (reach_e sc c)
-reach_stated sc (symS z) = tt
-reach_stated sc (evarS x) = unless_stated (is_in x.num sc.evars) 9 x.at (omega arith, omega arith)
-reach_stated sc (avarS x) = unless_stated (is_in x.num sc.avars) 9 x.at (omega arith, omega arith)
+reach_stated sc (sym_s z) = tt
+reach_stated sc (evar_s x) = unless_stated (is_in x.num sc.evars) 9 x.at (omega arith, omega arith)
+reach_stated sc (avar_s x) = unless_stated (is_in x.num sc.avars) 9 x.at (omega arith, omega arith)
 reach_stated sc (pair_s o c d) = or_stated (reach_e sc c) (reach_e sc d) (reach_stated sc c) (reach_stated sc d)
 
 atomic_stated : (sc : Scope) (c : SExp) → OfVerdict (reach_ea sc c)
@@ -140,9 +140,9 @@ program_stated s =
 
 -- 10, 11, 12
 ground_stated : (c : SExp) → OfVerdict (ground_verdict c)
-ground_stated (symS z) = tt
-ground_stated (evarS x) = (omega arith, omega arith)
-ground_stated (avarS x) = (omega arith, omega arith)
+ground_stated (sym_s z) = tt
+ground_stated (evar_s x) = (omega arith, omega arith)
+ground_stated (avar_s x) = (omega arith, omega arith)
 ground_stated (pair_s o c d) = or_stated (ground_verdict c) (ground_verdict d) (ground_stated c) (ground_stated d)
 
 variables_stated : (tool : Tool) (c : SExp) → OfVerdict (variables tool c)

@@ -4,7 +4,7 @@ use Prim.Native.String.{String}
 use Rattle.language.specs.Program.{pe, pa}
 use Rattle.language.specs.Tokens.{Kind, symbol, ename, aname, evariable, avariable, plain, Token}
 use Rattle.language.specs.Reader.{Reader, ◌>>=◌, ◌>>◌, give, is, is_a, the, the_in, one_of, wrong, choose, up_to}
-use Rattle.language.specs.Source.{Stand, SExp, symS, evarS, avarS, pair_s, SCondition, eqa_s, consp_s, STerm, call_s, conditional_s, result_s, SParam, SDef, SProg, SJob}
+use Rattle.language.specs.Source.{Stand, SExp, sym_s, evar_s, avar_s, pair_s, SCondition, eqa_s, consp_s, STerm, call_s, conditional_s, result_s, SParam, SDef, SProg, SJob}
 
 abbrev pub standing : Token → Stand
 standing t = record { at = t.at; num = t.num }
@@ -21,11 +21,11 @@ or_word k f m = choose (is_a k) (word k >>= λ x. give (f x)) m
 
 -- an e of one token: `'Z`, `e.NAME` or `a.NAME`
 abbrev pub leaf : Reader SExp
-leaf = or_word symbol symS (or_word ename evarS (or_word aname avarS wrong))
+leaf = or_word symbol sym_s (or_word ename evar_s (or_word aname avar_s wrong))
 
 -- a d of one token: `'Z`, `?eK` or `?aK`
 abbrev pub leaf_d : Reader SExp
-leaf_d = or_word symbol symS (or_word evariable evarS (or_word avariable avarS wrong))
+leaf_d = or_word symbol sym_s (or_word evariable evar_s (or_word avariable avar_s wrong))
 
 -- "`(cons e e)`" behind its bracket, which stands at o
 abbrev pub cons_at : ℕ → Reader SExp → Reader SExp

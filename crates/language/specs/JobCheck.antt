@@ -5,7 +5,7 @@ use Rattle.expressions.specs.Expression.{AtomicExp, sym, avar, Exp, atm, evar, p
 use Rattle.language.specs.Program.{Param, pe, pa}
 use Rattle.language.specs.Scope.{is_atomic}
 use Rattle.language.specs.Bytes.{Verdict, fault, unless, ◌or_else◌}
-use Rattle.language.specs.Source.{Stand, SExp, symS, evarS, avarS, pair_s, SJob, at_of, exp, exps}
+use Rattle.language.specs.Source.{Stand, SExp, sym_s, evar_s, avar_s, pair_s, SJob, at_of, exp, exps}
 
 -- the two tools that read a job
 pub data Tool : Type 0 where
@@ -13,9 +13,9 @@ pub data Tool : Type 0 where
 
 -- "in the runner, any variable in an input (offset: the variable)"
 abbrev pub ground_verdict : SExp → Verdict
-ground_verdict (symS z) = none
-ground_verdict (evarS x) = fault 10 x.at
-ground_verdict (avarS x) = fault 10 x.at
+ground_verdict (sym_s z) = none
+ground_verdict (evar_s x) = fault 10 x.at
+ground_verdict (avar_s x) = fault 10 x.at
 ground_verdict (pair_s o c d) = ground_verdict c or_else ground_verdict d
 
 abbrev pub variables : Tool → SExp → Verdict

@@ -6,7 +6,7 @@ use Rattle.language.specs.Program.{Param, pe, pa, Prog, find}
 use Rattle.language.specs.Scope.{Scope, is_in, is_atomic, with_a, pair_scope, scope_of}
 use Rattle.language.specs.WellFormed.{has_param}
 use Rattle.language.specs.Bytes.{Verdict, unless, ◌or_else◌}
-use Rattle.language.specs.Source.{Stand, SExp, symS, evarS, avarS, pair_s, SCondition, eqa_s, consp_s, STerm, call_s, conditional_s, result_s, SParam, SDef, SProg, at_of, exp, place_of, params, defs, functions, prog}
+use Rattle.language.specs.Source.{Stand, SExp, sym_s, evar_s, avar_s, pair_s, SCondition, eqa_s, consp_s, STerm, call_s, conditional_s, result_s, SParam, SDef, SProg, at_of, exp, place_of, params, defs, functions, prog}
 
 -- "6 ... a parameter defined twice (offset: the second name)"; `before` stand the earlier ones
 abbrev pub params_twice : List Param → List SParam → Verdict
@@ -52,9 +52,9 @@ defs_rebound (d ∷ ds) = term_rebound (scope_of (params d.params)) d.body or_el
 
 -- "9 variable not in reach"
 abbrev pub reach_e : Scope → SExp → Verdict
-reach_e sc (symS z) = none
-reach_e sc (evarS x) = unless (is_in x.num sc.evars) 9 x.at
-reach_e sc (avarS x) = unless (is_in x.num sc.avars) 9 x.at
+reach_e sc (sym_s z) = none
+reach_e sc (evar_s x) = unless (is_in x.num sc.evars) 9 x.at
+reach_e sc (avar_s x) = unless (is_in x.num sc.avars) 9 x.at
 reach_e sc (pair_s o c d) = reach_e sc c or_else reach_e sc d
 
 -- "8 not atomic where an ea is due", then 9

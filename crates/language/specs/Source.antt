@@ -12,7 +12,7 @@ pub record Stand : Type 0 where
 
 -- e and d: `'Z`, `e.NAME` or `?eK`, `a.NAME` or `?aK`, `(cons e e)`; the offset is that of the first byte
 pub data SExp : Type 0 where
-  symS evarS avarS : Stand → SExp
+  sym_s evar_s avar_s : Stand → SExp
   pair_s : ℕ → SExp → SExp → SExp
 
 pub data SCondition : Type 0 where
@@ -49,16 +49,16 @@ pub record SJob : Type 0 where
   pub table : Stand
 
 abbrev pub at_of : SExp → ℕ
-at_of (symS n) = n.at
-at_of (evarS n) = n.at
-at_of (avarS n) = n.at
+at_of (sym_s n) = n.at
+at_of (evar_s n) = n.at
+at_of (avar_s n) = n.at
 at_of (pair_s o c d) = o
 
 -- without offsets
 abbrev pub exp : SExp → Exp
-exp (symS n) = atm (sym n.num)
-exp (evarS n) = evar n.num
-exp (avarS n) = atm (avar n.num)
+exp (sym_s n) = atm (sym n.num)
+exp (evar_s n) = evar n.num
+exp (avar_s n) = atm (avar n.num)
 exp (pair_s o c d) = pair (exp c) (exp d)
 
 abbrev pub exps : List SExp → List Exp

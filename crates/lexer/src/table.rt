@@ -1,7 +1,7 @@
 // A table of words by first standing: two cells an entry, the word's hash and its offset. Offsets from 32,769 on are those of a second
 // text, so that the symbols of a program and of its job stand in one table.
 ghost use Rattle.std.specs.Prelude.{◌≡◌, set, ◌+◌, ◌*◌, ◌%◌};
-ghost use Rattle.language.specs.Words.{same as sameWord};
+ghost use Rattle.language.specs.Words.{same as word_same};
 ghost use Rattle.words.specs.Twins.Cutting.{word_at};
 ghost use Rattle.lexer.specs.Twins.Chains.{Chained, linked, linked_all};
 ghost use Rattle.lexer.specs.Twins.Table.{word_in, entry_is, find_at, entered};
@@ -22,7 +22,7 @@ pub fn word_at(text: &[u8], i: usize) -> &[u8]
 // The word stands at `at`. The stored word is cut out only where its text begins with this one, so that words of one hash are told apart
 // at the first byte in which they differ.
 fn stands_at(text: &[u8], at: usize, word: &[u8]) -> bool
-    ensures { result ≡ sameWord (word_at text.now at) word.now }
+    ensures { result ≡ word_same (word_at text.now at) word.now }
 {
     if begins(word, part(text, at, text.len())) {
         return same(word_at(text, at), word);
@@ -32,7 +32,7 @@ fn stands_at(text: &[u8], at: usize, word: &[u8]) -> bool
 
 // The word stands at this offset.
 fn stands(first: &[u8], second: &[u8], offset: u16, word: &[u8]) -> bool
-    ensures { result ≡ sameWord (word_in first.now second.now offset) word.now }
+    ensures { result ≡ word_same (word_in first.now second.now offset) word.now }
 {
     if offset < 32769 {
         return stands_at(first, offset as usize, word);

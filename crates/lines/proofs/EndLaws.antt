@@ -14,7 +14,7 @@ use Rattle.expressions.specs.Substitution.{apply}
 use Rattle.expressions.specs.Restriction.{simplify}
 use Rattle.expressions.specs.Contraction.{CRPair}
 use Rattle.expressions.specs.Class.{IOClass, nodes_class}
-use Rattle.expressions.specs.Intersection.{meeting, Intersected, common, disjoint, tooLarge, intersect, nodes_meeting}
+use Rattle.expressions.specs.Intersection.{meeting, Intersected, common, disjoint, too_large, intersect, nodes_meeting}
 use Rattle.language.specs.Program.{Term, result, Param, Prog}
 use Rattle.language.specs.Scope.{in_scope}
 use Rattle.semantics.specs.Configuration.{ExpEnv, subst_of_env, nodes_state, Configuration}
@@ -108,7 +108,7 @@ module _ (lim : Limits) (few : lim.table ≤ 256) (steps : ℕ) (within : steps 
   met_means : (i : Intersected) (w : MetLeft) → Answered i w → let e = after_meeting steps lim.table l a w w.met in EndMeans a (at_end lim steps r i) e.ended e.answer
   met_means (common Q) w (c, e, m, low) = rw e (added_means Q w.heap w.frame w.q c m (omega arith))
   met_means disjoint w e = rw e (l, refl, held, refl)
-  met_means tooLarge w e = rw e (refl, refl)
+  met_means too_large w e = rw e (refl, refl)
 
 -- what is left of the storages behind an end that the walk goes on from
 pub record EndKept (used : ℕ) (h : List ℕ) (w : EndLeft) : Type 0 where
@@ -193,10 +193,10 @@ module _ (p : Prog) (bodies : ℕ → ℕ) (code : List ℕ) {h f q : List ℕ} 
     answered : Answered (intersect over P) w
     kept : (w.met ≡ MetOver) ⊎ Kept c.used h w.heap w.frame w.q
 
-  too_large : over P ≡ true → (w : MetLeft) → w.met ≡ MetOver → MeetsAs w
-  too_large e w i = record { answered = subst (λ (o : Intersected). Answered o w) (inv is_large) i; kept = inl i }
+  too_large_lem : over P ≡ true → (w : MetLeft) → w.met ≡ MetOver → MeetsAs w
+  too_large_lem e w i = record { answered = subst (λ (o : Intersected). Answered o w) (inv is_large) i; kept = inl i }
     where
-      is_large : intersect over P ≡ tooLarge
+      is_large : intersect over P ≡ too_large
       is_large = rw e
 
   module _ (from to now kn : ℕ) (at : Holds valued.heap now from to u) (knows : KnownOf kn u) (same : Below c.used valued.heap h) (grown : c.used ≤ now) (most : now ≤ c.used + nodes u) (fits : now ≤ 65535) (whole : length valued.heap ≡ 65535) where
@@ -207,7 +207,7 @@ module _ (p : Prog) (bodies : ℕ → ℕ) (code : List ℕ) {h f q : List ℕ} 
     w = unified (class_at c now) valued.heap (entry (names_from c) kn from to f) q
 
     met_value : (t : Bool) → over P ≡ t → MeetsAs w
-    met_value true e = too_large e w (ap (λ (k : MetLeft). k.met) (unified_over P valued.heap (entry (names_from c) kn from to f) q (class_at c now) m e))
+    met_value true e = too_large_lem e w (ap (λ (k : MetLeft). k.met) (unified_over P valued.heap (entry (names_from c) kn from to f) q (class_at c now) m e))
     met_value false e =
         let n = ltb-false 4096 (nodes_meeting P) e in
         let k = unify_means P valued.heap (entry (names_from c) kn from to f) q (class_at c now) simple m (record { floored = grown; low = omega arith; room = omega arith }) in
@@ -230,7 +230,7 @@ module _ (p : Prog) (bodies : ℕ → ℕ) (code : List ℕ) {h f q : List ℕ} 
       go : (d : Exp) → u ≡ d → values.Outcome code f (names_from c) h c.used S.names v.values v.typed held_names few_names c.place (apply (subst_of_env (env_of S.names v.values)) e) → MeetsAs (output_met code c h f q)
       go d i (inl (o, l)) =
           let z : nodes (apply (subst_of_env (env_of S.names v.values)) e) ≡ nodes u = ap (λ (σ : ExpEnv). nodes (apply (subst_of_env σ) e)) (inv v.env) in
-          too_large (lt-ltb 4096 (nodes_meeting P) (omega arith)) (output_met code c h f q) (output_none o)
+          too_large_lem (lt-ltb 4096 (nodes_meeting P) (omega arith)) (output_met code c h f q) (output_none o)
       go d i (inr k) =
           let z : apply (subst_of_env (env_of S.names v.values)) e ≡ u = ap (λ (σ : ExpEnv). apply (subst_of_env σ) e) (inv v.env) in
           let t : Holds valued.heap k.now k.from k.to u = subst (λ (j : Exp). Holds valued.heap k.now k.from k.to j) z k.holds in

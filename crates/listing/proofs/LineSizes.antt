@@ -8,7 +8,7 @@ use native.Mathlib.Omega.{arith}
 use borrow.Author.Tests.{ltb-false}
 use Rattle.expressions.specs.Contraction.{CRPair, Contraction, identity, contra, bind_e, bind_a, non_equal, contract}
 use Rattle.expressions.specs.Class.{IOClass, nodes_class}
-use Rattle.expressions.specs.Intersection.{meeting, Intersected, common, disjoint, tooLarge, disagreement, unless_over, after_binding, unify_step, unify, bindings_enough, intersect, nodes_meeting}
+use Rattle.expressions.specs.Intersection.{meeting, Intersected, common, disjoint, too_large, disagreement, unless_over, after_binding, unify_step, unify, bindings_enough, intersect, nodes_meeting}
 use Rattle.language.specs.Program.{Prog}
 use Rattle.semantics.specs.Lists.{All}
 use Rattle.semantics.specs.Configuration.{Configuration, start}
@@ -23,7 +23,7 @@ Small L = nodes_class L.class ≤ 4096
 abbrev SmallClass : Intersected → Type 0
 SmallClass (common P) = nodes_class P ≤ 4096
 SmallClass disjoint = Unit {0}
-SmallClass tooLarge = Unit {0}
+SmallClass too_large = Unit {0}
 
 over_small : (f : CRPair meeting → Intersected) → ((Q : CRPair meeting) → nodes_meeting Q ≤ 4096 → SmallClass (f Q)) → (Q : CRPair meeting) → SmallClass (unless_over f Q (meeting_over Q))
 over_small f h Q = pick (meeting_over Q) refl
@@ -66,7 +66,7 @@ module _ (p : Prog) (lim : Limits) where
       pick true = a
       pick false = all_append Small r.lines (record { steps = s; class = P } ∷ []) a (h, tt)
   at_end_lem s r disjoint h a = a
-  at_end_lem s r tooLarge h a = a
+  at_end_lem s r too_large h a = a
 
   expanded : (n : ℕ) (x : Node) (c : Successors) (r : WalkState) → All Small r.lines → AllSmall (expand lim n x c r)
   expanded zero x (terminal u) r a = at_end_lem x.steps r (intersect meeting_over (meeting_at x u)) (intersect_small (meeting_at x u)) a

@@ -21,7 +21,7 @@ use Rattle.language.proofs.Tests.{is_false}
 use Rattle.language.proofs.TokenNumbers.{placed, same_self}
 use Rattle.language.proofs.SymbolWords.{SymbolOf, same_word}
 use Rattle.semantics.proofs.SymbolNumbers.{AnyNumber}
-use Rattle.listing.specs.Bindings.{same as sameExp, has_variable, add_variable, variables_of, variables_of_all, variables}
+use Rattle.listing.specs.Bindings.{same as same_exp, has_variable, add_variable, variables_of, variables_of_all, variables}
 use Rattle.listing.specs.Print.{digits, print_value, print_inputs}
 use Rattle.listing.specs.Sample.{place_of, sampling, sample, name_q, free_numbers, sample_names}
 use Rattle.listing.proofs.Numerals.{written, digits_named, digits_short, name_fits}
@@ -35,7 +35,7 @@ In ws v = place_of v ws < length ws
 
 place_keep : (v : Exp) (ws more : List Exp) → In ws v → place_of v (ws ++ more) ≡ place_of v ws
 place_keep v [] more l = absurd (omega arith)
-place_keep v (w ∷ ws) more l = go (sameExp w v) l (place_keep v ws more)
+place_keep v (w ∷ ws) more l = go (same_exp w v) l (place_keep v ws more)
   where
     go : (t : Bool) → cond t 0 (suc (place_of v ws)) < suc (length ws) → (In ws v → place_of v (ws ++ more) ≡ place_of v ws) → cond t 0 (suc (place_of v (ws ++ more))) ≡ cond t 0 (suc (place_of v ws))
     go true l ih = refl
@@ -43,21 +43,21 @@ place_keep v (w ∷ ws) more l = go (sameExp w v) l (place_keep v ws more)
 
 pub has_in : (v : Exp) (ws : List Exp) → has_variable v ws ≡ true → In ws v
 has_in v [] h = absurd (false≢true h)
-has_in v (w ∷ ws) h = go (sameExp w v) h (has_in v ws)
+has_in v (w ∷ ws) h = go (same_exp w v) h (has_in v ws)
   where
     go : (t : Bool) → (t || has_variable v ws) ≡ true → (has_variable v ws ≡ true → In ws v) → cond t 0 (suc (place_of v ws)) < suc (length ws)
     go true h ih = omega arith
     go false h ih = omega (arith, ih h)
 
-last_in : (v : Exp) → sameExp v v ≡ true → (ws : List Exp) → In (ws ++ (v ∷ [])) v
+last_in : (v : Exp) → same_exp v v ≡ true → (ws : List Exp) → In (ws ++ (v ∷ [])) v
 last_in v e [] = rw e (omega arith)
-last_in v e (w ∷ ws) = go (sameExp w v) (last_in v e ws)
+last_in v e (w ∷ ws) = go (same_exp w v) (last_in v e ws)
   where
     go : (t : Bool) → In (ws ++ (v ∷ [])) v → cond t 0 (suc (place_of v (ws ++ (v ∷ [])))) < suc (length (ws ++ (v ∷ [])))
     go true l = omega arith
     go false l = omega arith
 
-add_in : (v : Exp) → sameExp v v ≡ true → (ws : List Exp) → In (add_variable v ws) v
+add_in : (v : Exp) → same_exp v v ≡ true → (ws : List Exp) → In (add_variable v ws) v
 add_in v e ws = go (has_variable v ws) refl
   where
     go : (t : Bool) → has_variable v ws ≡ t → In (cond t ws (ws ++ (v ∷ []))) v

@@ -33,7 +33,7 @@ use Rattle.semantics.specs.Lists.{All}
 use Rattle.semantics.specs.Figure4.{Outputs}
 use Rattle.semantics.specs.Tree.{Line}
 use Rattle.semantics.specs.Walk.{lines_of}
-use Rattle.semantics.specs.Runner.{Ran, value, ranOver}
+use Rattle.semantics.specs.Runner.{Ran, value, ran_over}
 use Rattle.semantics.specs.Answer.{inputs, walked, ran, Answer, answered, answer_of, run}
 use Rattle.semantics.proofs.Environments.{FitsInputs, class_fits}
 use Rattle.semantics.proofs.SymbolNumbers.{AnyNumber}
@@ -279,7 +279,7 @@ module _ (p j : List ℕ) (s : SProg) (t : SJob) (e : reading lister p j ≡ acc
           let w = subst (λ (is : List Value). Outputs (prog s) is L.steps (rename ρ apart NameNumber (sample c).out)) (inv i) o in
           ended out (ran s u) ((ran_correct p text s u (reading_is text u q)).complete L.steps (rename ρ apart NameNumber (sample c).out) (omega (arith, C.within, a.steps)) w)
         where
-          ended : AtomsOf R (sample c).out → (x : Ran) → (x ≡ value L.steps (rename ρ apart NameNumber (sample c).out)) ⊎ (x ≡ ranOver) → Runs (answered x)
+          ended : AtomsOf R (sample c).out → (x : Ran) → (x ≡ value L.steps (rename ρ apart NameNumber (sample c).out)) ⊎ (x ≡ ran_over) → Runs (answered x)
           ended out x (inl q) = subst (λ (y : Ran). Runs (answered y)) (inv q) (refl, print_renamed ρ apart NameNumber ns then (names_of text) (sample c).out out)
           ended out x (inr q) = subst (λ (y : Ran). Runs (answered y)) (inv q) tt
 

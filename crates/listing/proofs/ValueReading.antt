@@ -14,7 +14,7 @@ use Rattle.language.specs.Bytes.{txt, byte_kind, is_outside, ◌or_else◌}
 use Rattle.language.specs.Words.{Word, same, all, fits, name_fit}
 use Rattle.language.specs.Tokens.{goes_on, place, symbol, of_job, Token, key_of, same_kind}
 use Rattle.language.specs.Reader.{and_then, Reader, ◌>>◌, judged, fit_if, is, roomed, the_in, wrong}
-use Rattle.language.specs.Source.{SExp, symS, pair_s, exp}
+use Rattle.language.specs.Source.{SExp, sym_s, pair_s, exp}
 use Rattle.language.specs.Grammar.{leaf_d, tree, datum}
 use Rattle.language.specs.JobCheck.{ground_verdict}
 use Rattle.language.proofs.Spelling.{OfWord, Spells, spaced, bracketed, worded, Spelled, Spelt}
@@ -134,7 +134,7 @@ module _ (names : List Word) where
 
     atom_takes : {P : List Token → Type 0} (z : ℕ) → Nameable z → T P (value_words (atom z)) (ReadAs (atom z)) leaf_d
     atom_takes z h = choose_first of_job symbols others (39 ∷ name z) [] (λ t s. ap (λ k. same_kind k symbol) s.kind)
-        (done_takes of_job symbols others symS (λ x e. (ap (λ (n : ℕ). atm (sym n)) e, refl)) (word_takes of_job symbols others symbol (39 ∷ name z) refl h))
+        (done_takes of_job symbols others sym_s (λ x e. (ap (λ (n : ℕ). atm (sym n)) e, refl)) (word_takes of_job symbols others symbol (39 ∷ name z) refl h))
 
     not_bracket : (w : Word) (v : String) (t : Token) → Spelled of_job symbols others w t → eqb (key_of w) (key_of (txt v)) ≡ false → is v t ≡ false
     not_bracket w v t s e = ap (λ (k : ℕ). eqb k (key_of (txt v))) s.key ∙ e

@@ -9,7 +9,7 @@ use Rattle.language.specs.Words.{Word}
 use Rattle.language.specs.Tokens.{is_among, of_program, of_job}
 use Rattle.language.specs.Reading.{symbol_names}
 use Rattle.semantics.specs.Figure4.{Outputs}
-use Rattle.semantics.specs.Runner.{Ran, value, ranOver, notWithin, runner}
+use Rattle.semantics.specs.Runner.{Ran, value, ran_over, not_within, runner}
 use Rattle.semantics.specs.Answer.{Answer, answered, refused, run}
 use Rattle.semantics.specs.Tree.{Line}
 use Rattle.listing.specs.Bindings.{has_variable, variables}
@@ -81,7 +81,7 @@ pub record SampleNamed (ns : List Word) (c : IOPair) : Type 0 where
 
 -- "and so does the forward runner unless the sample passes a limit of .. 21"; 1 and 5 are limits of texts
 abbrev pub SampleRun : Prog → ℕ → Line → Type 0
-SampleRun p n L = let c = sample L.class.con in (runner p n c.ins ≡ value L.steps c.out) ⊎ (runner p n c.ins ≡ ranOver)
+SampleRun p n L = let c = sample L.class.con in (runner p n c.ins ≡ value L.steps c.out) ⊎ (runner p n c.ins ≡ ran_over)
 
 -- The sample as a job text with the line's job's steps: D as it is printed under the line.
 abbrev pub sample_job : List Word → ℕ → IOPair → List ℕ
@@ -90,8 +90,8 @@ sample_job ns n c = txt "(job " ++ print_pair (line_names ns c) (sample c) (txt 
 -- "and so does the forward runner unless the sample passes a limit of 1, 5 or 21": m are the line's steps, d is the printed output
 abbrev pub RunsTo : List Word → ℕ → List ℕ → Answer Ran → Type 0
 RunsTo ns m d (answered (value k v)) = (k ≡ m) × (print_value ns v ≡ d)
-RunsTo ns m d (answered ranOver) = Unit {0}
-RunsTo ns m d (answered notWithin) = ⊥
+RunsTo ns m d (answered ran_over) = Unit {0}
+RunsTo ns m d (answered not_within) = ⊥
 RunsTo ns m d (refused of_program r) = ⊥
 RunsTo ns m d (refused of_job r) = (r.number ≡ 1) ⊎ (r.number ≡ 5)
 

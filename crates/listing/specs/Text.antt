@@ -4,7 +4,7 @@ use Rattle.language.specs.Bytes.{txt, Refusal}
 use Rattle.language.specs.Words.{Word}
 use Rattle.language.specs.Tokens.{Text, of_program, of_job, symbols_of}
 use Rattle.language.specs.Reading.{symbol_names}
-use Rattle.semantics.specs.Runner.{Ran, value, ranOver, notWithin}
+use Rattle.semantics.specs.Runner.{Ran, value, ran_over, not_within}
 use Rattle.semantics.specs.Answer.{Answer, answered, refused, Listed, list, run}
 use Rattle.listing.specs.Print.{digits, print_value, print_listing}
 use Rattle.listing.specs.Sample.{print_sampled_listing}
@@ -29,8 +29,8 @@ print_answer f (refused t r) = print_refusal (letter_of t) r.number r.at
 -- the runner's line: `value STEPS EXPR`, `stop21` or `notwithin`
 abbrev pub print_ran : List Word → Ran → List ℕ
 print_ran ns (value s v) = txt "value " ++ digits s ++ (32 ∷ print_value ns v) ++ (10 ∷ [])
-print_ran ns ranOver = txt "stop21\n"
-print_ran ns notWithin = txt "notwithin\n"
+print_ran ns ran_over = txt "stop21\n"
+print_ran ns not_within = txt "notwithin\n"
 
 unfoldable pub list_text : List ℕ → List ℕ → List ℕ
 unfolding list symbols_of print_listing

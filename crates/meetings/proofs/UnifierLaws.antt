@@ -12,7 +12,7 @@ use Rattle.expressions.specs.Substitution.{subst_e, subst_a}
 use Rattle.expressions.specs.Restriction.{Restriction, simplify, apply_non_equality, subst_restriction}
 use Rattle.expressions.specs.Contraction.{CRPair, Contraction, apply_pair}
 use Rattle.expressions.specs.Class.{IOClass}
-use Rattle.expressions.specs.Intersection.{meeting, disagreement, Intersected, common, disjoint, tooLarge, unless_over, after_binding, unify_step, unify, bindings_enough, intersect}
+use Rattle.expressions.specs.Intersection.{meeting, disagreement, Intersected, common, disjoint, too_large, unless_over, after_binding, unify_step, unify, bindings_enough, intersect}
 use Rattle.expressions.proofs.Combination.{simplify_idempotent}
 use Rattle.expressions.proofs.Unification.{bound}
 use Rattle.expressions.proofs.Disagreement.{IsIdentity, disagreement_identity}
@@ -40,7 +40,7 @@ use Rattle.meetings.proofs.BindingLaws.{Kept, Roomy, Stepped, entries_stepped, R
 abbrev pub Answered : Intersected → MetLeft → Type 0
 Answered (common Q) w = (c : Class) × (w.met ≡ Common c) × MeetingHeld (reached Q) w.heap w.frame w.q c × (c.used ≤ 61439)
 Answered disjoint w = w.met ≡ Apart
-Answered tooLarge w = w.met ≡ Over
+Answered too_large w = w.met ≡ Over
 
 -- .. and below `floor` the heap is as it was
 pub record Meets (floor : ℕ) (h : List ℕ) (r : Intersected) (w : MetLeft) : Type 0 where
@@ -174,7 +174,7 @@ module _ (w : MetLeft) where
       let d : a.0 ≡ c = cc in
       (Q, refl, subst (λ (k : Class). MeetingHeld (reached Q) w.heap w.frame w.q k) d a.2, subst (λ (k : Class). k.used ≤ 61439) d a.3)
   answered_common disjoint a c e = let z : ◌≡◌ {A = ℕ} 0 1 = cc in absurd (omega arith)
-  answered_common tooLarge a c e = let z : ◌≡◌ {A = ℕ} 0 1 = cc in absurd (omega arith)
+  answered_common too_large a c e = let z : ◌≡◌ {A = ℕ} 0 1 = cc in absurd (omega arith)
 
   pub answered_apart : (r : Intersected) → Answered r w → (w.met ≡ Apart) ↔ (r ≡ disjoint)
   answered_apart (common Q) a = ((λ e. let z : ◌≡◌ {A = ℕ} 0 1 = apart_common a.0 (inv e ∙ a.1) in absurd (omega arith)), λ e. cc)
@@ -182,12 +182,12 @@ module _ (w : MetLeft) where
       apart_common : (c : Class) → Apart ≡ Common c → ◌≡◌ {A = ℕ} 0 1
       apart_common c e = cc
   answered_apart disjoint a = ((λ e. refl), λ e. a)
-  answered_apart tooLarge a = ((λ e. cc), λ e. cc)
+  answered_apart too_large a = ((λ e. cc), λ e. cc)
 
-  pub answered_over : (r : Intersected) → Answered r w → (w.met ≡ Over) ↔ (r ≡ tooLarge)
+  pub answered_over : (r : Intersected) → Answered r w → (w.met ≡ Over) ↔ (r ≡ too_large)
   answered_over (common Q) a = ((λ e. let z : ◌≡◌ {A = ℕ} 0 1 = over_common a.0 (inv e ∙ a.1) in absurd (omega arith)), λ e. cc)
     where
       over_common : (c : Class) → Over ≡ Common c → ◌≡◌ {A = ℕ} 0 1
       over_common c e = cc
   answered_over disjoint a = ((λ e. cc), λ e. cc)
-  answered_over tooLarge a = ((λ e. refl), λ e. a)
+  answered_over too_large a = ((λ e. refl), λ e. a)

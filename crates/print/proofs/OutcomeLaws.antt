@@ -8,7 +8,7 @@ use Rattle.expressions.specs.Expression.{Value, atom, cons}
 use Rattle.language.specs.Bytes.{txt}
 use Rattle.language.specs.Words.{Word}
 use Rattle.semantics.specs.Embedding.{embed}
-use Rattle.semantics.specs.Runner.{Ran, value, ranOver, notWithin}
+use Rattle.semantics.specs.Runner.{Ran, value, ran_over, not_within}
 use Rattle.listing.specs.Print.{digits, print, print_value}
 use Rattle.listing.specs.Text.{print_ran}
 use Rattle.sets.specs.Cells.{cells}
@@ -24,13 +24,13 @@ value_cells v = cells (embed v)
 
 abbrev pub outcome_of : Ran → Outcome
 outcome_of (value s v) = ValueOf s (length (value_cells v))
-outcome_of ranOver = Over
-outcome_of notWithin = NotWithin
+outcome_of ran_over = Over
+outcome_of not_within = NotWithin
 
 abbrev pub answer_of : Ran → List ℕ
 answer_of (value s v) = value_cells v
-answer_of ranOver = []
-answer_of notWithin = []
+answer_of ran_over = []
+answer_of not_within = []
 
 pub print_embed : (ns : List Word) (v : Value) → print ns (embed v) ≡ print_value ns v
 print_embed ns (atom z) = refl
@@ -42,5 +42,5 @@ module _ (ns : List Word) (name : ℕ → List ℕ) (named : (z : ℕ) → name 
   outcome_printed (value s v) rest =
       ap (λ (t : List ℕ). txt "value " ++ digits s ++ (32 ∷ t) ++ (10 ∷ []))
       (ap (tree_text name) (take-append_seam (value_cells v) rest) ∙ tree_printed ns name named (embed v) ∙ print_embed ns v)
-  outcome_printed ranOver rest = refl
-  outcome_printed notWithin rest = refl
+  outcome_printed ran_over rest = refl
+  outcome_printed not_within rest = refl

@@ -20,7 +20,7 @@ use Rattle.lexer.specs.Twins.Lexed.{State}
 use Rattle.syntax.proofs.ProgramRead.{ProgramStored}
 use Rattle.syntax.proofs.JobRead.{JobStored}
 use Rattle.semantics.specs.Embedding.{embed}
-use Rattle.semantics.specs.Runner.{Ran, value, ranOver, notWithin, nodes_value}
+use Rattle.semantics.specs.Runner.{Ran, value, ran_over, not_within, nodes_value}
 use Rattle.semantics.specs.Walk.{stop21, stop22, stop23, Word, whole, cut, stop, word_of, lines_of, count_of}
 use Rattle.semantics.specs.Answer as meaning
 use Rattle.semantics.specs.Answer.{answered, walked, ran, Listed, list, run}
@@ -181,8 +181,8 @@ module _ (program job : List ℕ) where
     outcome_by (value k v) f =
         let n : length (cells (embed v)) ≡ nodes_value v = cells_nodes (embed v) ∙ embed_nodes v in
         ap (λ (i : ℕ). ran_named (taken s u j x) (runs.value_cells v d) (ValueOut k i)) (inv n) ∙ outcome_from (value k v) f (replicate (length d - nodes_value v) 0)
-    outcome_by ranOver f = outcome_from ranOver f (runs.cells_after (answered ranOver) d)
-    outcome_by notWithin f = outcome_from notWithin f (runs.cells_after (answered notWithin) d)
+    outcome_by ran_over f = outcome_from ran_over f (runs.cells_after (answered ran_over) d)
+    outcome_by not_within f = outcome_from not_within f (runs.cells_after (answered not_within) d)
 
   -- "The runner's value stands in its answer storage in the same way": what `run` leaves is printed as the run of the two texts.
   module _ (work d : List ℕ) where

@@ -10,7 +10,7 @@ use Rattle.language.specs.Source.{SProg, SJob, class}
 use Rattle.language.specs.JobCheck.{lister, runner}
 use Rattle.language.specs.Reading.{Reading, accepted, rejected, reading}
 use Rattle.language.proofs.Numbers.{rejected_number}
-use Rattle.semantics.specs.Runner.{Ran, value, ranOver, notWithin, nodes_value}
+use Rattle.semantics.specs.Runner.{Ran, value, ran_over, not_within, nodes_value}
 use Rattle.semantics.specs.Answer as meaning
 use Rattle.lent.specs.Storage.{zeros}
 use Rattle.answers.specs.ListNumbers as lists
@@ -46,8 +46,8 @@ module _ (p j work d : List ℕ) where
     where
       come : (r : Ran) → runs.Numbered (ran.answer_of (meaning.Answer.answered r))
       come (value s v) = some_node v
-      come ranOver = tt
-      come notWithin = tt
+      come ran_over = tt
+      come not_within = tt
 
       by : (f : SProg → SJob → Ran) (x : Reading) → reading runner p j ≡ x → runs.Numbered (ran.answer_of (meaning.answer_of f x))
       by f (accepted s t) e = come (f s t)

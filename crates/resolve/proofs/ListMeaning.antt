@@ -27,7 +27,7 @@ use Rattle.semantics.specs.Tree.{root}
 use Rattle.semantics.specs.Walk.{Limits, stop21, stop22, stop23, Walked, going, stopped, walk_from, at_start, resolve, whole, cut, word_of, lines_of, count_of}
 use Rattle.semantics.proofs.Backtrack.{on_path, halted, walk_back, walk_back_from, resolve_back, walked_of, SameFindings}
 use Rattle.semantics.specs.Answer as meaning
-use Rattle.semantics.specs.Answer.{Listed, limits, answer_of as meaningOf, list}
+use Rattle.semantics.specs.Answer.{Listed, limits, answer_of as meaning_of, list}
 use Rattle.semantics.proofs.Backtracking.{back_findings}
 use Rattle.semantics.proofs.MainCall.{accepted_main}
 use Rattle.language.specs.Program.{Prog}
@@ -221,7 +221,7 @@ module _ (program job work d : List ℕ) (wide : 8194 ≤ length work) (long : a
   said a = left_of (answer_of a) (zeros work) (cells_after a d)
 
   abbrev said_by : Reading → ListLeft
-  said_by r = said (meaningOf listed_by r)
+  said_by r = said (meaning_of listed_by r)
 
   -- what is left, where the answer storage keeps its length
   abbrev kept : BothAnswer → ListLeft

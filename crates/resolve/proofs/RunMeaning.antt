@@ -23,9 +23,9 @@ use Rattle.syntax.proofs.ProgramRead.{ProgramStored}
 use Rattle.syntax.proofs.JobRead.{JobStored}
 use Rattle.semantics.specs.Embedding.{embed}
 use Rattle.semantics.specs.Evaluate.{go, start_env}
-use Rattle.semantics.specs.Runner.{Ran, value, ranOver, notWithin, nodes_value, nodes_next}
+use Rattle.semantics.specs.Runner.{Ran, value, ran_over, not_within, nodes_value, nodes_next}
 use Rattle.semantics.specs.Answer as meaning
-use Rattle.semantics.specs.Answer.{answered, inputs, ran, answer_of as meaningOf, run}
+use Rattle.semantics.specs.Answer.{answered, inputs, ran, answer_of as meaning_of, run}
 use Rattle.semantics.proofs.Environments.{ground_fits}
 use Rattle.linking.specs.Twins.Linking.{program_linked}
 use Rattle.linking.specs.Twins.Linked.{ProgramLinked}
@@ -131,8 +131,8 @@ module _ (program job : List ℕ) (p : SProg) (j : SJob) (e : reading runner pro
     -- what is left of a run, by what it means
     ran_settled : (r : Ran) (w : RanAnswer) → RanMeans (zeros d) r w → ran_left x (settled w) ≡ left_of (answer_of (answered r)) x (cells_after (answered r) d)
     ran_settled (value k v) w h = rw h (ap (λ (c : List ℕ). left_of (ValueOf k (nodes_value v)) x (cells (embed v) ++ c)) (drop_zeros (nodes_value v) (length d)))
-    ran_settled ranOver w h = rw h.0 (ap (λ (n : ℕ). left_of Over x (replicate n 0)) (h.1 ∙ zeros_length (length d)))
-    ran_settled notWithin w h = rw h refl
+    ran_settled ran_over w h = rw h.0 (ap (λ (n : ℕ). left_of Over x (replicate n 0)) (h.1 ∙ zeros_length (length d)))
+    ran_settled not_within w h = rw h refl
 
     pub accepted_means : run_behind d (taken s u j x) ≡ left_of (answer_of (answered (ran p j))) x (cells_after (answered (ran p j)) d)
     unfolding run_inputs
@@ -144,11 +144,11 @@ module _ (program job work d : List ℕ) (wide : 8194 ≤ length work) (long : 4
   abbrev said : meaning.Answer Ran → RunLeft
   said a = left_of (answer_of a) (zeros work) (cells_after a d)
 
-  refused_said : (t : Text) (r : Refusal) → reading runner program job ≡ rejected t r → (marks nums ends heads jmarks jnums symbols : List ℕ) → run_behind d (leaving (refused_texts t r) marks nums ends heads jmarks jnums symbols (zeros work)) ≡ said (meaningOf ran (rejected t r))
+  refused_said : (t : Text) (r : Refusal) → reading runner program job ≡ rejected t r → (marks nums ends heads jmarks jnums symbols : List ℕ) → run_behind d (leaving (refused_texts t r) marks nums ends heads jmarks jnums symbols (zeros work)) ≡ said (meaning_of ran (rejected t r))
   refused_said of_program r e marks nums ends heads jmarks jnums symbols = refl
   refused_said of_job r e marks nums ends heads jmarks jnums symbols = refl
 
   pub texts_left : run_texts program job work d ≡ said (run program job)
   unfolding run_texts run
   texts_left =
-      texts_by_reading true program job work wide (run_behind d) (λ r. said (meaningOf ran r)) refused_said (λ p j e s h u g room wide. accepted_means program job p j e s h u g room d long (zeros work))
+      texts_by_reading true program job work wide (run_behind d) (λ r. said (meaning_of ran r)) refused_said (λ p j e s h u g room wide. accepted_means program job p j e s h u g room d long (zeros work))

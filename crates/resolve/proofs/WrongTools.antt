@@ -10,7 +10,7 @@ use Rattle.expressions.specs.Class.{IOClass}
 use Rattle.language.specs.Program.{Prog}
 use Rattle.semantics.specs.Tree.{Line, listing}
 use Rattle.semantics.specs.Walk.{Limits, stop21, stop22, stop23, Word, whole, cut, stop, word_of, lines_of, count_of}
-use Rattle.semantics.specs.Runner.{Ran, value, ranOver, notWithin}
+use Rattle.semantics.specs.Runner.{Ran, value, ran_over, not_within}
 use Rattle.semantics.specs.Answer.{answered}
 use Rattle.semantics.specs.Stops.{RunsOver}
 use Rattle.semantics.proofs.WrongTools.{no_early_over, no_empty_whole, no_early_23}
@@ -22,10 +22,10 @@ use Rattle.answers.specs.declared.list.Answer.TheVariants.{Listed}
 use Rattle.answers.specs.declared.list.Word.TheVariants.{Whole, Stop23}
 use Rattle.run_answers.specs.declared.run.Answer.TheVariants.{Over}
 
-is_over_lem : (r : Ran) → Over ≡ answer_of (answered r) → r ≡ ranOver
+is_over_lem : (r : Ran) → Over ≡ answer_of (answered r) → r ≡ ran_over
 is_over_lem (value s v) e = let k : ◌≡◌ {A = ℕ} 0 1 = cc in absurd (omega arith)
-is_over_lem ranOver e = refl
-is_over_lem notWithin e = let k : ◌≡◌ {A = ℕ} 0 1 = cc in absurd (omega arith)
+is_over_lem ran_over e = refl
+is_over_lem not_within e = let k : ◌≡◌ {A = ℕ} 0 1 = cc in absurd (omega arith)
 
 -- a runner that always says 21
 pub no_constant_21 : (p : Prog) (n : ℕ) (is : List Value) (d : List ℕ) → StoredRun p n is Over d → (RunsOver p n is → ⊥) → ⊥

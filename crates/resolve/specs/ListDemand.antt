@@ -11,7 +11,7 @@ use Rattle.semantics.specs.Stops.{Stops}
 use Rattle.semantics.specs.StopOrder.{visits, InOrder, VisitsByTheRules}
 use Rattle.lines.specs.LineReading.{read_lines}
 use Rattle.resolve.specs.ListAnswer.{worded}
-use Rattle.answers.specs.ListNumbers.{lines_of as linesIn}
+use Rattle.answers.specs.ListNumbers.{lines_of as lines_in}
 use Rattle.answers.specs.declared.list.Answer.{Answer}
 use Rattle.answers.specs.declared.list.Answer.TheVariants.{Listed, Program, Job, Short}
 use Rattle.answers.specs.declared.list.Word.TheVariants.{Whole, Cut, Stop21, Stop22, Stop23}
@@ -38,7 +38,7 @@ Answered Short = ⊥
 -- n its steps, lim its W and T.
 pub record StoredListing (p : Prog) (j : IOClass) (n : ℕ) (lim : Limits) (r : Answer) (d : List ℕ) : Type 0 where
   pub listing : Walked
-  pub lines : read_lines (linesIn r) d ≡ lines_of listing
+  pub lines : read_lines (lines_in r) d ≡ lines_of listing
   pub answer : r ≡ worded (word_of listing) (length (lines_of listing)) (count_of listing)
   -- "an accepted program never gets stuck"; no configuration binds a bound name (02, request 1)
   pub never_stuck : TraceNeverStuck p j

@@ -4,7 +4,7 @@ use Rattle.expressions.specs.Expression.{Value}
 use Rattle.sets.specs.Cells.{cells}
 use Rattle.language.specs.Tokens.{of_program, of_job}
 use Rattle.semantics.specs.Embedding.{embed}
-use Rattle.semantics.specs.Runner.{Ran, value, ranOver, notWithin, nodes_value}
+use Rattle.semantics.specs.Runner.{Ran, value, ran_over, not_within, nodes_value}
 use Rattle.semantics.specs.Answer as meaning
 use Rattle.lent.specs.Storage.{zeros}
 use Rattle.run_answers.specs.declared.run.Answer.{Answer}
@@ -18,8 +18,8 @@ pub record RunLeft : Type 0 where
 
 abbrev pub answer_of : meaning.Answer Ran → Answer
 answer_of (meaning.Answer.answered (value s v)) = ValueOf s (nodes_value v)
-answer_of (meaning.Answer.answered ranOver) = Over
-answer_of (meaning.Answer.answered notWithin) = NotWithin
+answer_of (meaning.Answer.answered ran_over) = Over
+answer_of (meaning.Answer.answered not_within) = NotWithin
 answer_of (meaning.Answer.refused of_program r) = Program r.number r.at
 answer_of (meaning.Answer.refused of_job r) = Job r.number r.at
 
@@ -30,8 +30,8 @@ value_cells v d = cells (embed v) ++ replicate (length d - nodes_value v) 0
 -- "It stops only with 21 or "not within N", and then its answer storage is zero"; after a refusal "answer storage unchanged"
 abbrev pub cells_after : meaning.Answer Ran → List ℕ → List ℕ
 cells_after (meaning.Answer.answered (value s v)) d = value_cells v d
-cells_after (meaning.Answer.answered ranOver) d = zeros d
-cells_after (meaning.Answer.answered notWithin) d = zeros d
+cells_after (meaning.Answer.answered ran_over) d = zeros d
+cells_after (meaning.Answer.answered not_within) d = zeros d
 cells_after (meaning.Answer.refused t r) d = d
 
 -- "20 lent storage shorter than its least length": in cells

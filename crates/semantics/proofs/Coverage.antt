@@ -11,7 +11,7 @@ use Rattle.expressions.specs.Substitution.{GroundSubst, ground_exp}
 use Rattle.expressions.specs.Restriction.{Satisfies}
 use Rattle.expressions.specs.Contraction.{CRPair}
 use Rattle.expressions.specs.Class.{IOPair, GroundPair, ground_io, IOClass}
-use Rattle.expressions.specs.Intersection.{Meeting, meeting, Intersected, common, disjoint, tooLarge, intersect, no_limit}
+use Rattle.expressions.specs.Intersection.{Meeting, meeting, Intersected, common, disjoint, too_large, intersect, no_limit}
 use Rattle.expressions.proofs.Tests.{or_either}
 use Rattle.expressions.proofs.Simplification.{Consistent, consistent_satisfiable}
 use Rattle.expressions.proofs.Unification.{Unified, intersect_unified, intersect_sound, intersect_complete}
@@ -22,7 +22,7 @@ use Rattle.semantics.specs.Figure4.{ValueEnv}
 use Rattle.semantics.specs.Evaluate.{Next, end, go, step, add_step, eval_from}
 use Rattle.semantics.specs.Configuration.{ground_env, State, state, Configuration}
 use Rattle.semantics.specs.Trace.{Successors, terminal, called, branches, successors_of, successors}
-use Rattle.semantics.specs.Tree.{Node, after_call, after_decision, Tree, absent, end as endNode, unfinished, call as callNode, decision, branch, tree_from, tree, Leaf, leaves, unfinished_nodes, Line, meeting_at, line_of, leaf_lines, leaves_lines, any_of}
+use Rattle.semantics.specs.Tree.{Node, after_call, after_decision, Tree, absent, end as end_node, unfinished, call as call_node, decision, branch, tree_from, tree, Leaf, leaves, unfinished_nodes, Line, meeting_at, line_of, leaf_lines, leaves_lines, any_of}
 use Rattle.semantics.proofs.Lists.{all_append, all_map, any_left, any_right, any_map, pairs_append}
 use Rattle.semantics.proofs.Evaluation.{add_step_some}
 use Rattle.semantics.proofs.TransitionCorrectness.{side, Invariant, TransitionSound, TransitionComplete, BranchSound, HasSuccessor, TransitionCorrect, transition_correct}
@@ -126,7 +126,7 @@ module _ (p : Prog) (n : ℕ) (x : Node) (t : Term) (u : Exp) (e : (θ : GroundS
   end_exact : Consistent P.neqs → (o : Intersected) → intersect no_limit (meeting_at x u) ≡ o → Exact p n x.steps P t (line_of x.steps o) false
   end_exact cs (common Q) is = one_line cs Q is
   end_exact cs disjoint is = no_line (λ Q e. let w : disjoint ≡ common Q = inv is ∙ e in let z : ◌≡◌ {A = ℕ} 0 1 = cc in omega arith)
-  end_exact cs tooLarge is = no_line (λ Q e. let w : tooLarge ≡ common Q = inv is ∙ e in let z : ◌≡◌ {A = ℕ} 0 1 = cc in omega arith)
+  end_exact cs too_large is = no_line (λ Q e. let w : too_large ≡ common Q = inv is ∙ e in let z : ◌≡◌ {A = ℕ} 0 1 = cc in omega arith)
 
 -- one step more
 add_step_none : (o : Option (ℕ × Value)) → add_step o ≡ none → o ≡ none

@@ -10,7 +10,7 @@ use Rattle.expressions.specs.Restriction.{Restriction, simplify}
 use Rattle.expressions.specs.Contraction.{CRPair, Contraction, subst_of, contract_restriction, contract, apply_pair}
 use Rattle.expressions.specs.Class.{IOPair, apply_io, IOClass}
 use Rattle.expressions.specs.Split.{Split, take_numbers, split_exp, split_atomic}
-use Rattle.expressions.specs.Intersection.{Intersected, common, disjoint, tooLarge, intersect, no_limit}
+use Rattle.expressions.specs.Intersection.{Intersected, common, disjoint, too_large, intersect, no_limit}
 use Rattle.expressions.proofs.Filling.{apply_io_compose, apply_io_id}
 use Rattle.expressions.proofs.Unification.{intersect_unified}
 use Rattle.language.specs.Program.{Condition, eqa, consp, Term, call, conditional, result, Prog, find, atom_of}
@@ -90,7 +90,7 @@ module _ (j : IOPair) where
     where
       pick : (o : Intersected) → intersect no_limit (meeting_at l.node l.output) ≡ o → All (λ L. Under L.class.con) (line_of l.node.steps o)
       pick disjoint e = tt
-      pick tooLarge e = tt
+      pick too_large e = tt
       pick (common Q) e = let w = intersect_unified no_limit (meeting_at l.node l.output) Q e in (subst Under (inv w.con) (under_apply w.s l.node.conf.cr.con.io u), tt)
 
   leaves_instances : (ls : List Leaf) → All (λ l. Under l.node.conf.cr.con.io) ls → All (λ L. Under L.class.con) (leaves_lines ls)

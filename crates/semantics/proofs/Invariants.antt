@@ -3,7 +3,7 @@ use Prim.Native.Nat.{ℕ, zero, suc}
 use mathlib.Core.Bool.{Bool, true, false}
 use mathlib.Core.List.{List, [], ◌∷◌}
 use mathlib.Core.Option.{Option, none, some}
-use Rattle.expressions.specs.Intersection.{Intersected, common, disjoint, tooLarge, intersect}
+use Rattle.expressions.specs.Intersection.{Intersected, common, disjoint, too_large, intersect}
 use Rattle.expressions.proofs.Predicates.{OfOption}
 use Rattle.language.specs.Program.{Prog}
 use Rattle.semantics.specs.Lists.{All}
@@ -59,7 +59,7 @@ module _ (Q : Configuration → Type 0) (p : Prog) (keeps : Keeps p Q) where
   -- the machine: an end adds no untaken transition, any other node its successors
   end_holds : (lim : Limits) (s : ℕ) (r : WalkState) (i : Intersected) → OfWalk Q r → OfWalk Q (state_of (at_end lim s r i))
   end_holds lim s r disjoint h = h
-  end_holds lim s r tooLarge h = h
+  end_holds lim s r too_large h = h
   end_holds lim s r (common P) h = pick (table_full lim P r)
     where
       pick : (t : Bool) → OfWalk Q (state_of (with_line s P r t))

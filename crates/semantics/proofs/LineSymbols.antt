@@ -19,7 +19,7 @@ use Rattle.language.proofs.Numbers.{TermNumbers, ParamNumbers, DefNumbers, ProgN
 use Rattle.semantics.specs.Lists.{All}
 use Rattle.semantics.specs.Environment.{Binds, here, there, update, bind_params, names}
 use Rattle.semantics.specs.Figure4.{Defines, first, later}
-use Rattle.semantics.specs.Figure10.{CAtomOf, CValueOf, CArgumentsOf, MkBind, left, right, Leads, equal, assume, exclude, is_pair, is_atomic as isAtomicRule, split_pair, split_atom, calls, Transition, transition, Derivation, here as arrived, there as onwards}
+use Rattle.semantics.specs.Figure10.{CAtomOf, CValueOf, CArgumentsOf, MkBind, left, right, Leads, equal, assume, exclude, is_pair, is_atomic as is_atomic_rule, split_pair, split_atom, calls, Transition, transition, Derivation, here as arrived, there as onwards}
 use Rattle.semantics.specs.Configuration.{ExpEnv, state, Configuration, with_env, start_with, start}
 use Rattle.semantics.specs.Tree.{Node, Line, meeting_at, listing}
 use Rattle.semantics.specs.Walk.{Walked}
@@ -62,17 +62,17 @@ module _ (S N : ℕ → Type 0) where
   bind_symbols (left n b) h k = k
   bind_symbols (right z n) h k = h
 
-  leads_symbols : {p : Prog} {σ σ' : ExpEnv} {k k' : ℕ} {t t' : Term} {o : Option Bool} {κ : Contraction} → ProgNumbers S N p → Leads p σ k t o t' σ' κ k' →
+  leads_symbols : {p : Prog} {σ : ExpEnv} {k k' : ℕ} {σ' : ExpEnv} {t t' : Term} {o : Option Bool} {κ : Contraction} → ProgNumbers S N p → Leads p σ k t o t' σ' κ k' →
       TermNumbers S N t → OfEnv E A σ → TermNumbers S N t' × OfEnv E A σ' × ContractionNumbers S AnyNumber κ
   leads_symbols g (equal x y s t a b c) m v = (m.1, v, tt)
   leads_symbols g (assume x y s t a b κ ha hb n e) m v = (m.1, v, bind_symbols e (atom_symbols ha m.0.0 v) (atom_symbols hb m.0.1 v))
   leads_symbols g (exclude x y s t a b ha hb n) m v = (m.2, v, (atom_symbols ha m.0.0 v, atom_symbols hb m.0.1 v))
-  leads_symbols {σ} g (is_pair c h t x s r u w e) m v =
+  leads_symbols {σ = σ} g (is_pair c h t x s r u w e) m v =
       let q = value_symbols e m.0.0 v in (m.1, (update_all E t w (update h u σ.evars) q.1 (update_all E h u σ.evars q.0 v.0), v.1), tt)
-  leads_symbols {σ} g (isAtomicRule c h t x s r a e) m v = (m.2, (v.0, update_all A x a σ.avars (value_symbols e m.0.0 v) v.1), tt)
-  leads_symbols {σ} g (split_pair c h t x s r n e) m v =
+  leads_symbols {σ = σ} g (is_atomic_rule c h t x s r a e) m v = (m.2, (v.0, update_all A x a σ.avars (value_symbols e m.0.0 v) v.1), tt)
+  leads_symbols {σ = σ} g (split_pair c h t x s r n e) m v =
       (m.1, (update_all E t _ (update h _ σ.evars) tt (update_all E h _ σ.evars tt v.0), v.1), (tt, tt))
-  leads_symbols {σ} g (split_atom c h t x s r n e) m v = (m.2, (v.0, update_all A x _ σ.avars tt v.1), tt)
+  leads_symbols {σ = σ} g (split_atom c h t x s r n e) m v = (m.2, (v.0, update_all A x _ σ.avars tt v.1), tt)
   leads_symbols g (calls f ds d τ b a) m v = ((defined_symbols b g).1, arguments_symbols a m v, tt)
 
   contract_symbols : (κ : Contraction) → ContractionNumbers S AnyNumber κ → (P : CRPair state) → SymbolsAt S P → OfOption (SymbolsAt S) (contract κ P)
@@ -96,7 +96,7 @@ module _ (S N : ℕ → Type 0) where
       let moved : SymbolsAt S (with_env σ c.cr) = record { ins = H.0.ins; out = H.0.out; env = r.1; neqs = H.0.neqs } in
       (subst (OfOption (SymbolsAt S)) e (contract_symbols κ r.2 (with_env σ c.cr) moved), r.0)
 
-  derived_symbols : {p : Prog} {c d : Configuration} {m : ℕ} {bs : List Bool} → ProgNumbers S N p → Derivation p d c m bs → Symbols S N c → Symbols S N d
+  derived_symbols : {p : Prog} {d c : Configuration} {m : ℕ} {bs : List Bool} → ProgNumbers S N p → Derivation p d c m bs → Symbols S N c → Symbols S N d
   derived_symbols g arrived H = H
   derived_symbols g (onwards c e o m bs t r) H = derived_symbols g r (transition_symbols g t H)
 

@@ -8,7 +8,7 @@ use mathlib.Core.Logic.{◌↔◌}
 use native.Mathlib.Omega.{arith}
 use Rattle.expressions.specs.Expression.{Exp}
 use Rattle.expressions.specs.Class.{IOClass}
-use Rattle.expressions.specs.Intersection.{Intersected, common, disjoint, tooLarge, intersect, no_limit}
+use Rattle.expressions.specs.Intersection.{Intersected, common, disjoint, too_large, intersect, no_limit}
 use Rattle.expressions.proofs.Unification.{limited_common, limited_disjoint}
 use Rattle.language.specs.Program.{Prog}
 use Rattle.semantics.specs.Configuration.{Configuration, start}
@@ -131,7 +131,7 @@ module _ (p : Prog) where
         pick false = listing_is (ap (λ (k : List Line). r.lines ++ ((k ++ []) ++ (to_come r.todo).lines)) one ∙ inv (append_assoc r.lines (L ∷ []) (to_come r.todo).lines)) refl (omega arith)
     end_keeps x u r disjoint e =
         listing_is (ap (λ (k : List Line). r.lines ++ ((k ++ []) ++ (to_come r.todo).lines)) (ap (line_of x.steps) (limited_disjoint meeting_over (meeting_at x u) e))) refl (omega arith)
-    end_keeps x u r tooLarge e = begins r (also (end x u) 0 (to_come r.todo))
+    end_keeps x u r too_large e = begins r (also (end x u) 0 (to_come r.todo))
 
     expand_keeps : (n : ℕ) (x : Node) (S : Successors) (r : WalkState) → Keeps (total_with (tree_from p n x S) 0 r) (expand lim n x S r)
     unfolding tree_from
@@ -180,7 +180,7 @@ module _ (p : Prog) where
         pick true = refl
         pick false = refl
     end_visited s r disjoint = refl
-    end_visited s r tooLarge = refl
+    end_visited s r too_large = refl
 
     expand_visited : (n : ℕ) (x : Node) (S : Successors) (r : WalkState) → Visited r (expand lim n x S r)
     expand_visited zero x (terminal u) r = end_visited x.steps r (intersect meeting_over (meeting_at x u))

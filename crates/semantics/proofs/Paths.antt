@@ -6,7 +6,7 @@ use mathlib.Core.List.{List, [], ◌∷◌, ◌++◌, append_assoc, append-nil}
 use mathlib.Core.Option.{Option, none, some}
 use native.Mathlib.Omega.{arith}
 use lib.ListN.{length, length-append}
-use Rattle.expressions.specs.Intersection.{Intersected, common, disjoint, tooLarge, intersect}
+use Rattle.expressions.specs.Intersection.{Intersected, common, disjoint, too_large, intersect}
 use Rattle.language.specs.Program.{Prog}
 use Rattle.semantics.specs.Configuration.{Configuration}
 use Rattle.semantics.specs.Trace.{Successors, terminal, called, branches, successors}
@@ -178,7 +178,7 @@ module _ (p : Prog) (n : ℕ) (x : Node) where
         pick true = (refl, (h.replays, placed_within s.path h))
         pick false = (refl, h.replays)
     end_entered i s disjoint k h = (refl, h.replays)
-    end_entered i s tooLarge k h = (refl, (h.replays, placed_within s.path h))
+    end_entered i s too_large k h = (refl, (h.replays, placed_within s.path h))
 
     extend_entered : (m : ℕ) (y : Node) (S : Successors) (s : PathState) → successors p y.conf ≡ S → Placed (record { left = m; node = y }) s.path →
         Entered (expand lim m y S (with_todo (untaken s.path) s)) (extend lim m y S s)

@@ -13,7 +13,7 @@ use Rattle.language.specs.Program.{eqa, consp, Term, call, conditional, result, 
 use Rattle.language.specs.WellFormed.{admitted}
 use Rattle.semantics.specs.Figure4.{ValueEnv}
 use Rattle.semantics.specs.Evaluate.{ground_of, step_pair, Next, end, go, step, add_step, eval_from, evaluate}
-use Rattle.semantics.specs.Runner.{Ran, value, ranOver, notWithin, next_over, arrive, at_result, run_from, runner}
+use Rattle.semantics.specs.Runner.{Ran, value, ran_over, not_within, next_over, arrive, at_result, run_from, runner}
 use Rattle.semantics.specs.Demand2.{RunnerCorrect}
 use Rattle.semantics.proofs.Environments.{FitsInputs}
 use Rattle.semantics.proofs.Evaluation.{outputs_evaluate, evaluate_rules, evaluate_longer}
@@ -21,8 +21,8 @@ use Rattle.semantics.proofs.Evaluation.{outputs_evaluate, evaluate_rules, evalua
 -- an answer of the runner beside what evaluation comes to from a state s steps on
 abbrev Agrees : ℕ → Ran → Option (ℕ × Value) → Type 0
 Agrees s (value m v) o = (k : ℕ) × (m ≡ s + k) × (o ≡ some (k, v))
-Agrees s ranOver o = Unit {0}
-Agrees s notWithin o = o ≡ none
+Agrees s ran_over o = Unit {0}
+Agrees s not_within o = o ≡ none
 
 -- a term that is no end
 abbrev pub Moves : Term → Type 0
@@ -49,7 +49,7 @@ end_agrees : (p : Prog) (is : List Value) (n s : ℕ) (v : Value) → Agrees s (
 unfolding run_from eval_from
 end_agrees p is zero s v = pick (next_over is (end v))
   where
-    pick : (b : Bool) → Agrees s (arrive (λ t σ. notWithin) (suc s) b (end v)) (some (1, v))
+    pick : (b : Bool) → Agrees s (arrive (λ t σ. not_within) (suc s) b (end v)) (some (1, v))
     pick true = tt
     pick false = (1, (omega arith), refl)
 end_agrees p is (suc n) s v = pick (next_over is (end v))
@@ -60,8 +60,8 @@ end_agrees p is (suc n) s v = pick (next_over is (end v))
 
 later_agrees : (s : ℕ) (r : Ran) (o : Option (ℕ × Value)) → Agrees (suc s) r o → Agrees s r (add_step o)
 later_agrees s (value m v) o a = (suc a.0, (omega (arith, a.1)), ap add_step a.2)
-later_agrees s ranOver o a = tt
-later_agrees s notWithin o a = ap add_step a
+later_agrees s ran_over o a = tt
+later_agrees s not_within o a = ap add_step a
 
 -- one transition on, to a state that is an end or moves
 next_agrees : (p : Prog) (is : List Value) (n s : ℕ) →
@@ -76,7 +76,7 @@ agrees : (p : Prog) (is : List Value) (n s : ℕ) (t : Term) (σ : ValueEnv) →
 unfolding run_from eval_from
 agrees p is zero s t σ m = pick (next_over is (go t σ))
   where
-    pick : (b : Bool) → Agrees s (arrive (λ t σ. notWithin) s b (go t σ)) (eval_from p zero (step p t σ))
+    pick : (b : Bool) → Agrees s (arrive (λ t σ. not_within) s b (go t σ)) (eval_from p zero (step p t σ))
     pick true = tt
     pick false = let w = step_moves p t σ m in ap (eval_from p zero) w.2
 agrees p is (suc n) s t σ m = pick (next_over is (go t σ)) (next_agrees p is n s (λ u τ k. agrees p is n (suc s) u τ k))
@@ -93,13 +93,13 @@ runner_agrees : (p : Prog) (n : ℕ) (is : List Value) → Agrees 0 (runner p n 
 unfolding runner evaluate
 runner_agrees p n is = agrees p is n 0 _ _ tt
 
-agreed : (r : Ran) (o : Option (ℕ × Value)) (m : ℕ) (v : Value) → Agrees 0 r o → o ≡ some (m, v) → (r ≡ value m v) ⊎ (r ≡ ranOver)
+agreed : (r : Ran) (o : Option (ℕ × Value)) (m : ℕ) (v : Value) → Agrees 0 r o → o ≡ some (m, v) → (r ≡ value m v) ⊎ (r ≡ ran_over)
 agreed (value k w) o m v a e =
     let q = some-injective _ _ (inv a.2 ∙ e) in
     let l : k ≡ a.0 = omega (arith, a.1) in
     inl (ap₂ value (l ∙ ap (λ (r : ℕ × Value). r.0) q) (ap (λ (r : ℕ × Value). r.1) q))
-agreed ranOver o m v a e = inr refl
-agreed notWithin o m v a e = absurd (none-ne-some _ (inv a ∙ e))
+agreed ran_over o m v a e = inr refl
+agreed not_within o m v a e = absurd (none-ne-some _ (inv a ∙ e))
 
 -- "the runner gives the value and step count of the published evaluation rules"
 pub runner_correct : (p : Prog) (n : ℕ) (is : List Value) → admitted p ≡ true → FitsInputs (find p 0).params is → RunnerCorrect p n is (runner p n is)

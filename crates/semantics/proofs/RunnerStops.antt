@@ -14,7 +14,7 @@ use Rattle.language.specs.WellFormed.{admitted}
 use Rattle.semantics.specs.Figure4.{ValueEnv, ValueOf, Step, equal, unequal, is_pair, is_atom, calls}
 use Rattle.semantics.specs.Evaluate.{ground_of, Next, end, go, step, start_term, start_env}
 use Rattle.semantics.specs.Walk.{node_limit}
-use Rattle.semantics.specs.Runner.{Ran, value, ranOver, notWithin, at_result, nodes_next, next_over, arrive, run_from, runner}
+use Rattle.semantics.specs.Runner.{Ran, value, ran_over, not_within, at_result, nodes_next, next_over, arrive, run_from, runner}
 use Rattle.semantics.specs.Stops.{ReachesIn, here, there, NodesAt, at_call, at_condition, at_end, RunsOver, RunnerStops}
 use Rattle.semantics.proofs.Environments.{FitsInputs}
 use Rattle.semantics.proofs.Scopes.{WellScoped}
@@ -22,7 +22,7 @@ use Rattle.semantics.proofs.Evaluation.{value_is, step_is, Goes, step_goes, scop
 use Rattle.semantics.proofs.RunnerCorrectness.{Moves, step_moves}
 
 -- an arrival that stops is over the limit, or goes on to one that stops
-arrive_over : (on : Term → ValueEnv → Ran) (s : ℕ) (b : Bool) (x : Next) → arrive on s b x ≡ ranOver → (b ≡ true) ⊎ ((t : Term) × (σ : ValueEnv) × (x ≡ go t σ) × (on t σ ≡ ranOver))
+arrive_over : (on : Term → ValueEnv → Ran) (s : ℕ) (b : Bool) (x : Next) → arrive on s b x ≡ ran_over → (b ≡ true) ⊎ ((t : Term) × (σ : ValueEnv) × (x ≡ go t σ) × (on t σ ≡ ran_over))
 arrive_over on s true x e = inl refl
 arrive_over on s false (end v) e = let k : ◌≡◌ {A = ℕ} 0 1 = cc in absurd (omega arith)
 arrive_over on s false (go t σ) e = inr (t, σ, refl, e)
@@ -87,17 +87,17 @@ module _ (p : Prog) (is : List Value) where
   }
 
   -- a run that stops with 21 has such a state
-  ran_over : admitted p ≡ true → (n s : ℕ) (t : Term) (σ : ValueEnv) → WellScoped p t σ → run_from p is n s (arrived t σ) ≡ ranOver → OverFrom n t σ
+  ran_over_lem : admitted p ≡ true → (n s : ℕ) (t : Term) (σ : ValueEnv) → WellScoped p t σ → run_from p is n s (arrived t σ) ≡ ran_over → OverFrom n t σ
   unfolding run_from
-  ran_over a zero s t σ w e = pick (arrive_over (λ t σ. notWithin) s (next_over is (arrived t σ)) (arrived t σ) e)
+  ran_over_lem a zero s t σ w e = pick (arrive_over (λ t σ. not_within) s (next_over is (arrived t σ)) (arrived t σ) e)
     where
-      pick : (next_over is (arrived t σ) ≡ true) ⊎ ((u : Term) × (τ : ValueEnv) × (arrived t σ ≡ go u τ) × (notWithin ≡ ranOver)) → OverFrom zero t σ
+      pick : (next_over is (arrived t σ) ≡ true) ⊎ ((u : Term) × (τ : ValueEnv) × (arrived t σ ≡ go u τ) × (not_within ≡ ran_over)) → OverFrom zero t σ
       pick (inl h) = over_here zero t σ w h
       pick (inr h) = let q = h.3 in let k : ◌≡◌ {A = ℕ} 0 1 = cc in absurd (omega arith)
-  ran_over a (suc n) s t σ w e = pick (λ u τ v. ran_over a n (suc s) u τ v) (arrive_over (λ t σ. run_from p is n (suc s) (at_result p (step p t σ))) s (next_over is (arrived t σ)) (arrived t σ) e)
+  ran_over_lem a (suc n) s t σ w e = pick (λ u τ v. ran_over_lem a n (suc s) u τ v) (arrive_over (λ t σ. run_from p is n (suc s) (at_result p (step p t σ))) s (next_over is (arrived t σ)) (arrived t σ) e)
     where
-      pick : ((u : Term) (τ : ValueEnv) → WellScoped p u τ → run_from p is n (suc s) (arrived u τ) ≡ ranOver → OverFrom n u τ) →
-          (next_over is (arrived t σ) ≡ true) ⊎ ((u : Term) × (τ : ValueEnv) × (arrived t σ ≡ go u τ) × (run_from p is n (suc s) (at_result p (step p u τ)) ≡ ranOver)) → OverFrom (suc n) t σ
+      pick : ((u : Term) (τ : ValueEnv) → WellScoped p u τ → run_from p is n (suc s) (arrived u τ) ≡ ran_over → OverFrom n u τ) →
+          (next_over is (arrived t σ) ≡ true) ⊎ ((u : Term) × (τ : ValueEnv) × (arrived t σ ≡ go u τ) × (run_from p is n (suc s) (at_result p (step p u τ)) ≡ ran_over)) → OverFrom (suc n) t σ
       pick ih (inl h) = over_here (suc n) t σ w h
       pick ih (inr h) =
           let m = arrived_moves t h.0 σ h.1 h.2 in
@@ -106,9 +106,9 @@ module _ (p : Prog) (is : List Value) where
           over_there n t g.0 σ g.1 d (ih g.0 g.1 (scoped_step a d w) (ap (λ (x : Next). run_from p is n (suc s) (at_result p x)) (inv (m.1 ∙ g.2)) ∙ h.3))
 
   -- a run over such a state stops with 21
-  arrive_here : (n s : ℕ) (x : Next) → next_over is x ≡ true → run_from p is n s x ≡ ranOver
+  arrive_here : (n s : ℕ) (x : Next) → next_over is x ≡ true → run_from p is n s x ≡ ran_over
   unfolding run_from
-  arrive_here zero s x e = ap (λ (b : Bool). arrive (λ t σ. notWithin) s b x) e
+  arrive_here zero s x e = ap (λ (b : Bool). arrive (λ t σ. not_within) s b x) e
   arrive_here (suc n) s x e = ap (λ (b : Bool). arrive (λ t σ. run_from p is n (suc s) (at_result p (step p t σ))) s b x) e
 
   step_arrived : {t u : Term} {σ τ : ValueEnv} → Step p σ t u τ → arrived t σ ≡ go t σ
@@ -118,28 +118,28 @@ module _ (p : Prog) (is : List Value) where
   step_arrived (is_atom c h t x s r z k) = refl
   step_arrived (calls f ds d τ g k) = refl
 
-  over_ran : {t u : Term} {σ τ : ValueEnv} {m k : ℕ} (n s : ℕ) → ReachesIn p u τ m t σ → m ≤ n → NodesAt is τ u k → node_limit < k → run_from p is n s (arrived t σ) ≡ ranOver
+  over_ran : {u : Term} {τ : ValueEnv} {t : Term} {σ : ValueEnv} {m k : ℕ} (n s : ℕ) → ReachesIn p u τ m t σ → m ≤ n → NodesAt is τ u k → node_limit < k → run_from p is n s (arrived t σ) ≡ ran_over
   unfolding run_from
-  over_ran {t} {σ} n s here l c o = arrive_here n s (arrived t σ) (lt-ltb node_limit (nodes_next is (arrived t σ)) (omega (arith, o, counted_nodes c)))
+  over_ran {t = t} {σ = σ} n s here l c o = arrive_here n s (arrived t σ) (lt-ltb node_limit (nodes_next is (arrived t σ)) (omega (arith, o, counted_nodes c)))
   over_ran zero s (there m t v σ ρ d h) l c o = absurd (not-suc-le-zero l)
   over_ran (suc n) s (there m t v σ ρ d h) l c o = ap (run_from p is (suc n) s) (step_arrived d) ∙ pick (next_over is (go t σ)) (over_ran n (suc s) h (le_of_suc-le-suc l) c o)
     where
-      pick : (b : Bool) → run_from p is n (suc s) (arrived v ρ) ≡ ranOver → arrive (λ t σ. run_from p is n (suc s) (at_result p (step p t σ))) s b (go t σ) ≡ ranOver
+      pick : (b : Bool) → run_from p is n (suc s) (arrived v ρ) ≡ ran_over → arrive (λ t σ. run_from p is n (suc s) (at_result p (step p t σ))) s b (go t σ) ≡ ran_over
       pick true e = refl
       pick false e = ap (λ (x : Next). run_from p is n (suc s) (at_result p x)) (step_is d) ∙ e
 
 -- "It stops only with 21 or `not within N`"
-not_over : (r : Ran) → (r ≡ ranOver → ⊥) → ((m : ℕ) × (v : Value) × (r ≡ value m v)) ⊎ (r ≡ notWithin)
+not_over : (r : Ran) → (r ≡ ran_over → ⊥) → ((m : ℕ) × (v : Value) × (r ≡ value m v)) ⊎ (r ≡ not_within)
 not_over (value m v) f = inl (m, v, refl)
-not_over ranOver f = absurd (f refl)
-not_over notWithin f = inr refl
+not_over ran_over f = absurd (f refl)
+not_over not_within f = inr refl
 
 pub runner_stops : (p : Prog) (n : ℕ) (is : List Value) → admitted p ≡ true → FitsInputs (find p 0).params is → RunnerStops p n is (runner p n is)
 unfolding runner
 runner_stops p n is a f = record { over = (stopped, stops); unstopped = λ h. not_over (runner p n is) (λ e. h (stopped e)) }
   where
-    stopped : runner p n is ≡ ranOver → RunsOver p n is
-    stopped e = let x = ran_over p is a n 0 (start_term p) (start_env p is) (start_scoped p is a f) e in record {
+    stopped : runner p n is ≡ ran_over → RunsOver p n is
+    stopped e = let x = ran_over_lem p is a n 0 (start_term p) (start_env p is) (start_scoped p is a f) e in record {
       t₀ = start_term p;
       σ₀ = start_env p is;
       initial = initial_start p is a f;
@@ -153,7 +153,7 @@ runner_stops p n is a f = record { over = (stopped, stops); unstopped = λ h. no
       over = x.over;
     }
 
-    stops : RunsOver p n is → runner p n is ≡ ranOver
+    stops : RunsOver p n is → runner p n is ≡ ran_over
     stops x =
         let u = initial_is x.initial in
         over_ran p is n 0 (subst (λ (t : Term). ReachesIn p x.t x.σ x.m t (start_env p is)) u.0

@@ -11,7 +11,7 @@ use lib.ListN.{length}
 use borrow.Author.Tests.{ltb-true, leb-true, leb-false}
 use Rattle.expressions.specs.Expression.{Exp}
 use Rattle.expressions.specs.Class.{IOClass, nodes_class}
-use Rattle.expressions.specs.Intersection.{Intersected, common, disjoint, tooLarge, intersect}
+use Rattle.expressions.specs.Intersection.{Intersected, common, disjoint, too_large, intersect}
 use Rattle.expressions.proofs.Tests.{or_either, or_none}
 use Rattle.expressions.proofs.Unification.{limited_common, limited_disjoint}
 use Rattle.language.specs.Program.{Prog, find}
@@ -122,7 +122,7 @@ module _ (p : Prog) where
                   pass v _ e (over_is (common Q) g) (ap (λ (ls : List Line). r.lines ++ ls) (inv one)) (omega (arith, P.nodes, nodes_line r.lines L))
                   (omega (arith, leb-false lim.table (length r.lines) q.0, length_line r.lines L)) refl
           pick disjoint g = pass_on v r e (over_is disjoint g) (ap (line_of x.steps) (limited_disjoint meeting_over (meeting_at x u) g)) refl refl refl
-          pick tooLarge g = (halt_at v (to_visit r.todo) e, over_is tooLarge g, count)
+          pick too_large g = (halt_at v (to_visit r.todo) e, over_is too_large g, count)
 
       expand_halts : (k : ℕ) (S : Successors) → vs ≡ passed ++ (visits_from p k x S ++ to_visit r.todo) → state_over x.conf.cr ≡ false → Halting (expand lim k x S r)
       unfolding visits_from

@@ -12,7 +12,7 @@ use lib.ListN.{length}
 use borrow.Author.Tests.{ltb-true, ltb-false, leb-true, leb-false}
 use Rattle.expressions.specs.Expression.{Exp}
 use Rattle.expressions.specs.Class.{IOClass, nodes_class}
-use Rattle.expressions.specs.Intersection.{Intersected, common, disjoint, tooLarge, intersect, no_limit}
+use Rattle.expressions.specs.Intersection.{Intersected, common, disjoint, too_large, intersect, no_limit}
 use Rattle.expressions.proofs.Tests.{or_either, or_none}
 use Rattle.expressions.proofs.Unification.{limited_common}
 use Rattle.language.specs.Program.{Prog, find}
@@ -29,11 +29,11 @@ use Rattle.semantics.proofs.Machine.{found, Visited, to_come, total, total_with,
 use Rattle.semantics.proofs.Tracing.{child, IfSome, each_child, Scoped, transition_child, terminal_successors, child_transition, successors_terminal, child_scoped, start_scoped}
 
 -- one transition more at the end of a derivation
-pub derivation_after : {p : Prog} {c d e : Configuration} {o : Option Bool} {m : ℕ} {bs : List Bool} → Derivation p d c m bs → Transition p d o e →
+pub derivation_after : {p : Prog} {d c e : Configuration} {o : Option Bool} {m : ℕ} {bs : List Bool} → Derivation p d c m bs → Transition p d o e →
     Derivation p e c (suc m) (bs ++ decisions o [])
-derivation_after {d} {e} {o} here t = there d e o zero [] t here
-derivation_after {o} (there c f none m bs s h) t = there c f none (suc m) (bs ++ decisions o []) s (derivation_after h t)
-derivation_after {o} (there c f (some b) m bs s h) t = there c f (some b) (suc m) (bs ++ decisions o []) s (derivation_after h t)
+derivation_after {d = d} {e = e} {o = o} here t = there d e o zero [] t here
+derivation_after {o = o} (there c f none m bs s h) t = there c f none (suc m) (bs ++ decisions o []) s (derivation_after h t)
+derivation_after {o = o} (there c f (some b) m bs s h) t = there c f (some b) (suc m) (bs ++ decisions o []) s (derivation_after h t)
 
 pub length_line : (ls : List Line) (l : Line) → length (ls ++ (l ∷ [])) ≡ suc (length ls)
 length_line [] l = refl
@@ -105,7 +105,7 @@ module _ (p : Prog) (lim : Limits) (n : ℕ) (c : Configuration) where
             room = record { few = omega (arith, leb-false lim.table (length r.lines) q.0, length_line r.lines L); small = omega (arith, ltb-false line_limit (r.nodes + nodes_class P) q.1, H.nodes, nodes_line r.lines L) };
           }
   end_stopping i u r R T H disjoint e = H
-  end_stopping i u r R T H tooLarge e =
+  end_stopping i u r R T H too_large e =
       (H.room, inr (record { d = i.node.conf; m = R.m; trail = R.trail; u = u; derivation = R.derivation; within = omega (arith, R.depth); terminal = T; over = e }))
 
   module _ (wf : admitted p ≡ true) where
@@ -196,7 +196,7 @@ module _ (p : Prog) where
 
   -- a node is clear if it keeps the limit itself, as a configuration and as an end, and what its transitions lead to is clear
   abbrev Fine : Configuration → Type 0
-  Fine c = (node_limit < nodes_state c.cr → ⊥) × ((u : Exp) → Terminal c u → intersect meeting_over (meeting_at (root c) u) ≡ tooLarge → ⊥)
+  Fine c = (node_limit < nodes_state c.cr → ⊥) × ((u : Exp) → Terminal c u → intersect meeting_over (meeting_at (root c) u) ≡ too_large → ⊥)
 
   abbrev ClearBehind : ℕ → Configuration → Type 0
   ClearBehind zero c = Unit {0}
@@ -209,7 +209,7 @@ module _ (p : Prog) where
       B o f (transition_child t) (inl (record { d = d; m = m; trail = bs; derivation = h; within = le_of_suc-le-suc l; over = e }))
 
   clear_meeting : {c d : Configuration} {m : ℕ} {bs : List Bool} (k : ℕ) (u : Exp) → Fine c → ClearBehind k c → Derivation p d c m bs → m ≤ k → Terminal d u →
-      intersect meeting_over (meeting_at (root d) u) ≡ tooLarge → ⊥
+      intersect meeting_over (meeting_at (root d) u) ≡ too_large → ⊥
   clear_meeting k u F B here l T e = F.1 u T e
   clear_meeting zero u F B (there c f o m bs t h) l T e = not-suc-le-zero l
   clear_meeting {d} (suc k) u F B (there c f o m bs t h) l T e =
@@ -237,7 +237,7 @@ module _ (p : Prog) where
         behind zero = tt
         behind (suc l) = λ o d h z. none-ne-some d (ap (child o) (inv e) ∙ h)
 
-        clear : (intersect meeting_over (meeting_at x u) ≡ tooLarge → ⊥) → Clear (record { left = k; node = x })
+        clear : (intersect meeting_over (meeting_at x u) ≡ too_large → ⊥) → Clear (record { left = k; node = x })
         clear g = clear_node k x.conf (f, λ v T h. g (let q = inv e ∙ terminal_successors p T in let s : u ≡ v = cc in ap (λ (v : Exp). intersect meeting_over (meeting_at x v)) s ∙ h)) (behind k)
 
         pick : (I : Intersected) → intersect meeting_over (meeting_at x u) ≡ I → Clears (record { left = k; node = x }) r (at_end lim x.steps r I)
@@ -247,7 +247,7 @@ module _ (p : Prog) where
             fit true = tt
             fit false = λ h. (clear (λ z. let y = inv g ∙ z in let k : ◌≡◌ {A = ℕ} 0 1 = cc in omega arith), h)
         pick disjoint g = λ h. (clear (λ z. let y = inv g ∙ z in let k : ◌≡◌ {A = ℕ} 0 1 = cc in omega arith), h)
-        pick tooLarge g = tt
+        pick too_large g = tt
 
     branch_clears : (k : ℕ) (x : Node) (b : Bool) (a : Option Configuration) (r : WalkState) → All Clear (push_branch k x b a r).todo →
         IfSome (λ d. OverFrom k d → ⊥) a × All Clear r.todo

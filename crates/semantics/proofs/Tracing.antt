@@ -18,7 +18,7 @@ use Rattle.language.specs.Scope.{Scope, in_scope, all_in_scope, is_atomic, atomi
 use Rattle.language.specs.WellFormed.{fits, admitted}
 use Rattle.semantics.specs.Environment.{map_values, bind_params}
 use Rattle.semantics.specs.Configuration.{ExpEnv, subst_of_env, state, Configuration, with_env, start_with, start}
-use Rattle.semantics.specs.Figure10.{CAtomOf, CValueOf, CArgumentsOf, MkBind, left, right, Leads, equal, assume, exclude, is_pair, is_atomic as isAtomicRule, split_pair, split_atom, calls, Transition, transition, Terminal}
+use Rattle.semantics.specs.Figure10.{CAtomOf, CValueOf, CArgumentsOf, MkBind, left, right, Leads, equal, assume, exclude, is_pair, is_atomic as is_atomic_rule, split_pair, split_atom, calls, Transition, transition, Terminal}
 use Rattle.semantics.specs.Trace.{Successors, terminal, called, branches, configuration, trace_pair, trace_atomic, successors_of, successors}
 use Rattle.semantics.proofs.Environments.{lookup_binds, bound_lookup, bind_params_bound}
 use Rattle.semantics.proofs.Scopes.{Covers, WellScoped, defines_find, defines_is, scoped_body, scoped_call, scoped_eqa, scoped_consp, scoped_pair, scoped_atom, scoped_map, scoped_start}
@@ -83,7 +83,7 @@ leads_is {k} P (assume x y s r a c l h g n m) =
     ∙ ap (λ (t : Bool). configuration s k (contract (cond t identity (mk_bind a c)) P)) (different a c n) ∙ ap (λ (κ : Contraction). configuration s k (contract κ P)) (mk_bind_is m)
 leads_is {k} P (exclude x y s r a c h g n) = ap₂ (λ (a b : AtomicExp). configuration r k (contract (non_equal a b) P)) (atom_is h).0 (atom_is g).0
 leads_is {k} P (is_pair c h q x s r u v g) = ap (λ (v : Exp). child (some true) (trace_pair h q x s r P k v)) (value_is g) ∙ ap (configuration s k) (inv (contract_identity _))
-leads_is {k} P (isAtomicRule c h q x s r a g) = ap (λ (v : Exp). child (some false) (trace_pair h q x s r P k v)) (value_is g) ∙ ap (configuration r k) (inv (contract_identity _))
+leads_is {k} P (is_atomic_rule c h q x s r a g) = ap (λ (v : Exp). child (some false) (trace_pair h q x s r P k v)) (value_is g) ∙ ap (configuration r k) (inv (contract_identity _))
 leads_is {k} P (split_pair c h q x s r n g) = ap (λ (v : Exp). child (some true) (trace_pair h q x s r P k v)) (value_is g)
 leads_is {k} P (split_atom c h q x s r n g) = ap (λ (v : Exp). child (some false) (trace_pair h q x s r P k v)) (value_is g)
 leads_is {k} P (calls f ds d τ g a) =
@@ -207,7 +207,7 @@ module _ (p : Prog) (P : CRPair state) (k : ℕ) where
   lead_identity {t'} {σ} t o l = transition t' σ identity k (with_env σ P) l (contract_identity (with_env σ P))
 
   lead_consp : (c : Exp) (h t x : ℕ) (s u : Term) (v : Exp) → CValueOf P.con.env c v → Leading p (at (conditional (consp c h t x) s u)) (trace_pair h t x s u P k v)
-  lead_consp c h t x s u (atm a) g = (tt, lead_identity _ (some false) (isAtomicRule c h t x s u a g))
+  lead_consp c h t x s u (atm a) g = (tt, lead_identity _ (some false) (is_atomic_rule c h t x s u a g))
   lead_consp c h t x s u (evar n) g =
       let d = at (conditional (consp c h t x) s u) in (may_lead p d (some true) (split_pair c h t x s u n g), may_lead p d (some false) (split_atom c h t x s u n g))
   lead_consp c h t x s u (pair v w) g = (lead_identity _ (some true) (is_pair c h t x s u v w g), tt)
@@ -251,7 +251,7 @@ module _ (p : Prog) (wf : admitted p ≡ true) (P : CRPair state) where
   keeping : (t : Term) (k : ℕ) → WellScoped p t P.con.env → Keeping p (successors_of p P t k)
   unfolding successors_of
   keeping (result c) k w = tt
-  keeping (call f ds) k w = let u = scoped_call w in scoped_body wf (defines_find p f _ u.0) (bind_params_bound _ _ (find p f).params ds u.1)
+  keeping (call f ds) k w = let u = scoped_call w in scoped_body wf (defines_find p f _ u.0) (bind_params_bound _ (apply_atomic (subst_of_env P.con.env)) (find p f).params ds u.1)
   keeping (conditional (eqa x y) s t) k w =
       let u = scoped_eqa w in
       let sp = split_atomic (apply_atomic (subst_of_env P.con.env) (atom_of x)) (apply_atomic (subst_of_env P.con.env) (atom_of y)) in
@@ -266,4 +266,4 @@ start_scoped p j c wf f e = subst (IfSome (Scoped p)) e (pick (simplify j.neqs))
   where
     pick : (r : Option Restriction) → IfSome (Scoped p) (start_with p j r)
     pick none = tt
-    pick (some qs) = scoped_start wf (bind_params_bound _ _ (find p 0).params j.con.ins f)
+    pick (some qs) = scoped_start wf (bind_params_bound (λ c. c) (λ x. x) (find p 0).params j.con.ins f)

@@ -9,7 +9,7 @@ use native.Mathlib.Omega.{arith}
 use native.Mathlib.Nat.{not-suc-le-zero, le_of_suc-le-suc}
 use Rattle.expressions.specs.Expression.{Exp}
 use Rattle.expressions.specs.Class.{IOClass}
-use Rattle.expressions.specs.Intersection.{Intersected, common, disjoint, tooLarge, intersect, no_limit}
+use Rattle.expressions.specs.Intersection.{Intersected, common, disjoint, too_large, intersect, no_limit}
 use Rattle.language.specs.Program.{Prog, find}
 use Rattle.language.specs.WellFormed.{fits, admitted}
 use Rattle.semantics.specs.Lists.{All, Any, AllPairs}
@@ -27,7 +27,7 @@ use Rattle.semantics.proofs.Tracing.{child, Scoped, transition_child, terminal_s
 abbrev trailed_of : List Bool → ℕ → Intersected → List TrailedLine
 trailed_of bs s (common P) = record { trail = bs; line = record { steps = s; class = P } } ∷ []
 trailed_of bs s disjoint = []
-trailed_of bs s tooLarge = []
+trailed_of bs s too_large = []
 
 abbrev trailed_leaf : Leaf → List TrailedLine
 trailed_leaf l = trailed_of l.node.trail l.node.steps (intersect no_limit (meeting_at l.node l.output))
@@ -48,7 +48,7 @@ lines_trailed (l ∷ ls) = pick (intersect no_limit (meeting_at l.node l.output)
         line_of l.node.steps I ++ leaves_lines ls ≡ map (λ x. x.line) (trailed_of l.node.trail l.node.steps I ++ trailed_leaves ls)
     pick (common P) e = ap (λ (k : List Line). record { steps = l.node.steps; class = P } ∷ k) e
     pick disjoint e = e
-    pick tooLarge e = e
+    pick too_large e = e
 
 -- as `EndsIn`, from a node of the tree on: its trail and its steps come first
 record EndsFrom (p : Prog) (n : ℕ) (x : Node) (y : TrailedLine) : Type 0 where
@@ -102,7 +102,7 @@ module _ (p : Prog) where
         tt,
       )
       pick disjoint e = tt
-      pick tooLarge e = tt
+      pick too_large e = tt
 
   abbrev lines_behind : ℕ → Node → List TrailedLine
   lines_behind n x = trailed_leaves (leaves (tree p n x))
@@ -158,7 +158,7 @@ module _ (p : Prog) where
         pick : (I : Intersected) → AllPairs Sooner (trailed_of x.trail x.steps I ++ [])
         pick (common P) = (tt, tt)
         pick disjoint = tt
-        pick tooLarge = tt
+        pick too_large = tt
 
     before_behind : (ts bs cs : List Bool) → Before (ts ++ (true ∷ bs)) (ts ++ (false ∷ cs))
     before_behind [] bs cs = first bs cs

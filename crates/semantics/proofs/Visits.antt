@@ -342,7 +342,7 @@ module _ (p : Prog) where
         among_behind k (record { conf = c; steps = s; trail = ts }) (some q) b v (successors p c) (transition_child t)
         (among_from k (suc s) (ts ++ (q ∷ [])) h (le_of_suc-le-suc l) (e ∙ inv (append_assoc ts (q ∷ []) bs)) (omega (arith, f)))
 
-  scoped_derived : {c d : Configuration} {m : ℕ} {bs : List Bool} → admitted p ≡ true → Derivation p d c m bs → Scoped p c → Scoped p d
+  scoped_derived : {d c : Configuration} {m : ℕ} {bs : List Bool} → admitted p ≡ true → Derivation p d c m bs → Scoped p c → Scoped p d
   scoped_derived wf here s = s
   scoped_derived wf (there c e o m bs t h) s = scoped_derived wf h (child_scoped p c e o wf s (transition_child t))
 

@@ -13,13 +13,13 @@ use Rattle.language.specs.Program.{Prog}
 use Rattle.semantics.specs.Figure4.{Outputs}
 use Rattle.semantics.specs.Tree.{Line, listing}
 use Rattle.semantics.specs.Walk.{line_limit, Limits, stop21, stop22, stop23, Walked, Word, whole, cut, stop, word_of, lines_of, count_of}
-use Rattle.semantics.specs.Runner.{Ran, value, ranOver}
+use Rattle.semantics.specs.Runner.{Ran, value, ran_over}
 use Rattle.semantics.specs.Demand2.{RunnerCorrect}
 use Rattle.semantics.specs.Demand3.{Unstopped}
 use Rattle.semantics.specs.Stops.{OverIn, lines_nodes, NoRoom, Stops, RunsOver, RunnerStops}
 
 -- a runner that stops with 21 where there is a value within N and no state is over 4,096 nodes
-pub no_early_over : (p : Prog) (n : ℕ) (is : List Value) (r : Ran) → RunnerStops p n is r → (RunsOver p n is → ⊥) → r ≡ ranOver → ⊥
+pub no_early_over : (p : Prog) (n : ℕ) (is : List Value) (r : Ran) → RunnerStops p n is r → (RunsOver p n is → ⊥) → r ≡ ran_over → ⊥
 no_early_over p n is r S h e = h (S.over.0 e)
 
 -- so it gives the value
@@ -27,7 +27,7 @@ pub value_due : (p : Prog) (n : ℕ) (is : List Value) (r : Ran) → RunnerStops
     (RunsOver p n is → ⊥) → r ≡ value m v
 value_due p n is r S C m v l o h = pick (C.complete m v l o)
   where
-    pick : (r ≡ value m v) ⊎ (r ≡ ranOver) → r ≡ value m v
+    pick : (r ≡ value m v) ⊎ (r ≡ ran_over) → r ≡ value m v
     pick (inl e) = e
     pick (inr e) = absurd (no_early_over p n is r S h e)
 

@@ -9,7 +9,7 @@ use Rattle.language.specs.Source.{SProg, SJob, prog, class}
 use Rattle.language.specs.JobCheck.{lister, runner}
 use Rattle.language.specs.Reading.{Reading, accepted, rejected, reading}
 use Rattle.semantics.specs.Walk.{Limits, Walked, resolve}
-use Rattle.semantics.specs.Runner.{Ran, runner as runForward}
+use Rattle.semantics.specs.Runner.{Ran, runner as run_forward}
 
 abbrev pub limits : SJob → Limits
 limits j = record { walk = j.walk.num; table = j.table.num }
@@ -23,7 +23,7 @@ abbrev pub inputs : SJob → List Value
 inputs j = ground_all (record { e = λ n. atom 0; a = λ n. 0 }) (class j).con.ins
 
 abbrev pub ran : SProg → SJob → Ran
-ran s j = runForward (prog s) j.steps.num (inputs j)
+ran s j = run_forward (prog s) j.steps.num (inputs j)
 
 -- an answer, or the refusal of a text
 pub data Answer (A : Type 0) : Type 0 where
@@ -44,5 +44,5 @@ unfolding reading resolve
 list p j = answer_of (λ s t. record { job = class t; walked = walked s t }) (reading lister p j)
 
 unfoldable pub run : List ℕ → List ℕ → Answer Ran
-unfolding reading runForward
+unfolding reading run_forward
 run p j = answer_of ran (reading runner p j)

@@ -14,7 +14,7 @@ use Rattle.semantics.specs.Configuration.{Configuration, start}
 use Rattle.semantics.specs.Figure10.{Transition, Derivation, Terminal}
 use Rattle.semantics.specs.Tree.{Node, Line, meeting_at, Listing, listing}
 use Rattle.semantics.specs.Walk.{Walked, going, stopped, lines_of}
-use Rattle.semantics.specs.Runner.{Ran, value, ranOver, notWithin}
+use Rattle.semantics.specs.Runner.{Ran, value, ran_over, not_within}
 
 -- "A name .. that a `cons?` binds may no longer be one already in reach on that branch. .. 01's rule that a later binding replaces the
 -- earlier one goes." (02, request 1): where the term is a `cons?`, none of the names that it binds is bound
@@ -53,8 +53,8 @@ NeverRebinds p is = (t t' : Term) (σ σ' : ValueEnv) → Initial p is t σ → 
 -- "the runner gives the value and step count of the published evaluation rules"
 pub record RunnerCorrect (p : Prog) (n : ℕ) (is : List Value) (r : Ran) : Type 0 where
   pub valued : (m : ℕ) (v : Value) → r ≡ value m v → (m ≤ n) × Outputs p is m v
-  pub complete : (m : ℕ) (v : Value) → m ≤ n → Outputs p is m v → (r ≡ value m v) ⊎ (r ≡ ranOver)
-  pub longer : r ≡ notWithin → RunsLonger p n is
+  pub complete : (m : ℕ) (v : Value) → m ≤ n → Outputs p is m v → (r ≡ value m v) ⊎ (r ≡ ran_over)
+  pub longer : r ≡ not_within → RunsLonger p n is
 
 -- "true-branch-first order": at the first difference of two trails true before false
 pub data Before : List Bool → List Bool → Type 0 where

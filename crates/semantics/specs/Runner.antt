@@ -10,7 +10,7 @@ use Rattle.semantics.specs.Walk.{node_limit}
 -- the steps and the value, or "It stops only with 21 or `not within N`"
 pub data Ran : Type 0 where
   value : ℕ → Value → Ran
-  ranOver notWithin : Ran
+  ran_over not_within : Ran
 
 abbrev pub nodes_value : Value → ℕ
 nodes_value (atom z) = 1
@@ -41,14 +41,14 @@ next_over is x = ltb node_limit (nodes_next is x)
 
 -- A state s steps from the start: "21 .. at the start, after a transition"; else an end, or it goes on.
 abbrev pub arrive : (Term → ValueEnv → Ran) → ℕ → Bool → Next → Ran
-arrive on s true x = ranOver
+arrive on s true x = ran_over
 arrive on s false (end v) = value s v
 arrive on s false (go t σ) = on t σ
 
 -- "An input runs longer if its run reaches no end in N steps": n are left
 unfoldable pub run_from : Prog → List Value → ℕ → ℕ → Next → Ran
 unfolding step
-run_from p is zero s x = arrive (λ t σ. notWithin) s (next_over is x) x
+run_from p is zero s x = arrive (λ t σ. not_within) s (next_over is x) x
 run_from p is (suc n) s x = arrive (λ t σ. run_from p is n (suc s) (at_result p (step p t σ))) s (next_over is x) x
 
 unfoldable pub runner : Prog → ℕ → List Value → Ran

@@ -4,7 +4,7 @@ use Rattle.std.specs.Prelude.{ℕ, zero, suc, ◌+◌, ◌≤◌, ◌<◌, ◌�
 use Rattle.std.proofs.Math.Option.{Option, none, some}
 use Rattle.expressions.specs.Expression.{Exp}
 use Rattle.expressions.specs.Class.{IOClass, nodes_class}
-use Rattle.expressions.specs.Intersection.{Intersected, common, disjoint, tooLarge, intersect}
+use Rattle.expressions.specs.Intersection.{Intersected, common, disjoint, too_large, intersect}
 use Rattle.language.specs.Program.{Prog}
 use Rattle.semantics.specs.Lists.{All, Any, AllPairs}
 use Rattle.semantics.specs.Configuration.{Configuration, start}
@@ -56,7 +56,7 @@ transitions (v ∷ vs) = length vs
 abbrev pub is_too_large : Intersected → Bool
 is_too_large (common P) = false
 is_too_large disjoint = false
-is_too_large tooLarge = true
+is_too_large too_large = true
 
 abbrev pub meeting_is_over : Node → Option Exp → Bool
 meeting_is_over x none = false

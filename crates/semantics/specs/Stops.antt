@@ -4,7 +4,7 @@ use Rattle.std.specs.Prelude.{ℕ, zero, suc, ◌+◌, ◌≤◌, ◌<◌, ◌�
 use Rattle.std.proofs.Math.Option.{some}
 use Rattle.expressions.specs.Expression.{Value, Exp}
 use Rattle.expressions.specs.Class.{IOClass, nodes_class}
-use Rattle.expressions.specs.Intersection.{tooLarge, intersect}
+use Rattle.expressions.specs.Intersection.{too_large, intersect}
 use Rattle.language.specs.Program.{Condition, Term, call, conditional, result, Prog}
 use Rattle.semantics.specs.Figure4.{ValueEnv, ValueOf, Step, Initial}
 use Rattle.semantics.specs.Evaluate.{end, go}
@@ -12,7 +12,7 @@ use Rattle.semantics.specs.Configuration.{Configuration, start, nodes_state}
 use Rattle.semantics.specs.Figure10.{Derivation, Terminal}
 use Rattle.semantics.specs.Tree.{Line, meeting_at, listing}
 use Rattle.semantics.specs.Walk.{meeting_over, Limits, stop21, stop22, stop23, Walked, cut, stop, word_of, lines_of, count_of}
-use Rattle.semantics.specs.Runner.{Ran, value, ranOver, notWithin, nodes_next}
+use Rattle.semantics.specs.Runner.{Ran, value, ran_over, not_within, nodes_next}
 use Rattle.semantics.specs.Demand3.{Unstopped}
 
 -- "21 over 4,096 nodes: at the start, after a transition": a configuration at most n transitions from c, c itself after none
@@ -33,7 +33,7 @@ pub record OverMeeting (p : Prog) (n : ℕ) (c : Configuration) : Type 0 where
   pub derivation : Derivation p d c m trail
   pub within : m ≤ n
   pub terminal : Terminal d u
-  pub over : intersect meeting_over (meeting_at (record { conf = d; steps = m; trail = trail }) u) ≡ tooLarge
+  pub over : intersect meeting_over (meeting_at (record { conf = d; steps = m; trail = trail }) u) ≡ too_large
 
 -- the condition of 21, somewhere in the tree of a job
 pub record OverIn (p : Prog) (n : ℕ) (j : IOClass) : Type 0 where
@@ -96,5 +96,5 @@ pub record RunsOver (p : Prog) (n : ℕ) (is : List Value) : Type 0 where
 
 -- "It stops only with 21 or `not within N`": with 21 exactly where its run has such a state, and else with a value or "not within N"
 pub record RunnerStops (p : Prog) (n : ℕ) (is : List Value) (r : Ran) : Type 0 where
-  pub over : (r ≡ ranOver) ↔ RunsOver p n is
-  pub unstopped : (RunsOver p n is → ⊥) → ((m : ℕ) × (v : Value) × (r ≡ value m v)) ⊎ (r ≡ notWithin)
+  pub over : (r ≡ ran_over) ↔ RunsOver p n is
+  pub unstopped : (RunsOver p n is → ⊥) → ((m : ℕ) × (v : Value) × (r ≡ value m v)) ⊎ (r ≡ not_within)

@@ -4,7 +4,7 @@ use Rattle.std.proofs.Math.Option.{Option, none, some}
 use Rattle.expressions.specs.Expression.{Exp}
 use Rattle.expressions.specs.Contraction.{CRPair}
 use Rattle.expressions.specs.Class.{IOClass}
-use Rattle.expressions.specs.Intersection.{Meeting, meeting, Intersected, common, disjoint, tooLarge, unify, intersect, no_limit}
+use Rattle.expressions.specs.Intersection.{Meeting, meeting, Intersected, common, disjoint, too_large, unify, intersect, no_limit}
 use Rattle.language.specs.Program.{Prog}
 use Rattle.semantics.specs.Configuration.{Configuration, start}
 use Rattle.semantics.specs.Trace.{Successors, terminal, called, branches, successors_of, successors}
@@ -97,7 +97,7 @@ meeting_at x u = record { con = record { io = x.conf.cr.con.io; output = u }; ne
 abbrev pub line_of : ℕ → Intersected → List Line
 line_of s (common P) = record { steps = s; class = P } ∷ []
 line_of s disjoint = []
-line_of s tooLarge = []
+line_of s too_large = []
 
 abbrev pub leaf_lines : Leaf → List Line
 leaf_lines l = line_of l.node.steps (intersect no_limit (meeting_at l.node l.output))

@@ -4,7 +4,7 @@ use Rattle.std.proofs.Math.Option.{Option, none, some}
 use Rattle.expressions.specs.Expression.{Exp}
 use Rattle.expressions.specs.Contraction.{CRPair}
 use Rattle.expressions.specs.Class.{IOClass, nodes_class}
-use Rattle.expressions.specs.Intersection.{meeting, Intersected, common, disjoint, tooLarge, unify, intersect, nodes_meeting}
+use Rattle.expressions.specs.Intersection.{meeting, Intersected, common, disjoint, too_large, unify, intersect, nodes_meeting}
 use Rattle.language.specs.Program.{Prog}
 use Rattle.semantics.specs.Configuration.{state, Configuration, start, nodes_state}
 use Rattle.semantics.specs.Trace.{Successors, terminal, called, branches, successors_of, successors}
@@ -64,7 +64,7 @@ with_line s P r false = going (record { todo = r.todo; lines = r.lines ++ (recor
 abbrev pub at_end : Limits → ℕ → WalkState → Intersected → Walked
 at_end lim s r (common P) = with_line s P r (table_full lim P r)
 at_end lim s r disjoint = going r
-at_end lim s r tooLarge = stopped stop21 r
+at_end lim s r too_large = stopped stop21 r
 
 abbrev pub push : ℕ → Node → WalkState → WalkState
 push n x r = record { todo = record { left = n; node = x } ∷ r.todo; lines = r.lines; nodes = r.nodes; cut = r.cut; count = r.count }

@@ -15,7 +15,7 @@ use Rattle.language.specs.Tokens.{Kind, symbol, ename, aname, plain, tag, Text, 
 use Rattle.language.specs.Reader.{is, is_a}
 use Rattle.language.specs.Program.{Param, pe, pa}
 use Rattle.language.specs.Scope.{Scope, is_in, is_atomic}
-use Rattle.language.specs.Source.{SExp, symS, evarS, avarS, pair_s, SParam, exp, at_of, params}
+use Rattle.language.specs.Source.{SExp, sym_s, evar_s, avar_s, pair_s, SParam, exp, at_of, params}
 use Rattle.language.specs.ProgramCheck.{reach_e, reach_ea, reach_args}
 use Rattle.syntax.specs.Twins.Standing.{WordAt, NameAt, ExpAt, symbol_at, cons_at, ExpsAt, ParamsAt}
 use Rattle.syntax.specs.Twins.Standing as at

@@ -8,7 +8,7 @@ use Rattle.language.specs.Words.{Fit}
 use Rattle.language.specs.Tokens.{Kind, symbol, ename, aname, evariable, avariable, plain, Token}
 use Rattle.language.specs.Reader.{Reader, ◌>>=◌, refuse, give, take, the, the_in, wrong, choose, up_to}
 use Rattle.syntax.proofs.Advances.{Advances, fewer, give_advances, take_advances, wrong_advances, bind_advances, then_advances, choose_advances, up_to_advances}
-use Rattle.language.specs.Source.{Stand, SExp, symS, evarS, avarS, SCondition, STerm, SParam, SDef, SProg}
+use Rattle.language.specs.Source.{Stand, SExp, sym_s, evar_s, avar_s, SCondition, STerm, SParam, SDef, SProg}
 use Rattle.language.specs.Grammar.{word, or_word, leaf, leaf_d, cons_at, tree, expr, datum, args, condition, form, term, parameter, parameters, definition, is_end, definitions, program, sides, part}
 
 pub takes : (f : Token → Fit) → Advances 0 (take f)
@@ -21,10 +21,10 @@ pub or_word_advances : (k : Kind) (f : Stand → SExp) (m : Reader SExp) → Adv
 or_word_advances k f m h = choose_advances 1 _ (word k >>= λ x. give (f x)) m (bind_advances 1 0 (word k) _ (word_advances k) (λ x. give_advances (f x))) h
 
 pub leaf_advances : Advances 1 leaf
-leaf_advances = or_word_advances symbol symS _ (or_word_advances ename evarS _ (or_word_advances aname avarS _ (wrong_advances 1)))
+leaf_advances = or_word_advances symbol sym_s _ (or_word_advances ename evar_s _ (or_word_advances aname avar_s _ (wrong_advances 1)))
 
 pub leaf_d_advances : Advances 1 leaf_d
-leaf_d_advances = or_word_advances symbol symS _ (or_word_advances evariable evarS _ (or_word_advances avariable avarS _ (wrong_advances 1)))
+leaf_d_advances = or_word_advances symbol sym_s _ (or_word_advances evariable evar_s _ (or_word_advances avariable avar_s _ (wrong_advances 1)))
 
 pub cons_advances : (o : ℕ) (item : Reader SExp) → Advances 1 item → Advances 0 (cons_at o item)
 cons_advances o item h =

@@ -10,7 +10,7 @@ use Rattle.language.specs.Words.{Fit, broken}
 use Rattle.language.specs.Tokens.{Kind, symbol, ename, aname, evariable, avariable, plain, Token}
 use Rattle.language.specs.Reader.{Reader, ◌>>=◌, ◌>>◌, give, take, wrong, choose, is, is_a, fit_if, roomed, one_fit, the, the_in, up_to}
 use Rattle.syntax.proofs.Advances.{Advances, fewer, give_advances, bind_advances, then_advances, choose_advances, up_to_advances}
-use Rattle.language.specs.Source.{Stand, SExp, symS, evarS, avarS, pair_s, SCondition, eqa_s, consp_s, STerm, call_s, conditional_s, result_s, SParam, SDef, SProg, SJob}
+use Rattle.language.specs.Source.{Stand, SExp, sym_s, evar_s, avar_s, pair_s, SCondition, eqa_s, consp_s, STerm, call_s, conditional_s, result_s, SParam, SDef, SProg, SJob}
 use Rattle.language.specs.Grammar.{standing, word, or_word, leaf, leaf_d, cons_at, tree, expr, datum, args, condition, form, term, parameter, parameters, definition, is_end, definitions, program, sides, part, job_text}
 use Rattle.syntax.proofs.GrammarAdvances.{takes, word_advances, tree_advances, leaf_advances, leaf_d_advances, expr_advances, datum_advances, args_advances, condition_advances, term_advances, cons_advances, parameter_advances, parameters_advances, definition_advances, definitions_advances, sides_advances, part_advances}
 use Rattle.words.specs.declared.got.Got.{Got}
@@ -29,7 +29,7 @@ module _ (ts : List Token) where
   word_tracks k z = last_tracks ts (take (one_fit 1 k)) standing (at.word_p (token_at ts) (length ts) k) (takes _) (take_tracks ts (one_fit 1 k) z)
 
   leaf_tracks : Tracks ts leaf (at.leaf_p (token_at ts) (length ts))
-  leaf_tracks = or_word_tracks symbol refl symS _ _ (or_word_tracks ename refl evarS _ _ (or_word_tracks aname refl avarS _ _ (wrong_tracks ts SExp)))
+  leaf_tracks = or_word_tracks symbol refl sym_s _ _ (or_word_tracks ename refl evar_s _ _ (or_word_tracks aname refl avar_s _ _ (wrong_tracks ts SExp)))
 
   -- a fixed word
   the_tracks : (w : String) → is w nothing ≡ false → Tracks ts (the w) (at.the_p (token_at ts) (length ts) w)
@@ -64,7 +64,7 @@ module _ (ts : List Token) where
   expr_tracks room = tree_tracks leaf (at.leaf_p (token_at ts) (length ts)) leaf_advances leaf_tracks room
 
   leaf_d_tracks : Tracks ts leaf_d (at.leaf_dp (token_at ts) (length ts))
-  leaf_d_tracks = or_word_tracks symbol refl symS _ _ (or_word_tracks evariable refl evarS _ _ (or_word_tracks avariable refl avarS _ _ (wrong_tracks ts SExp)))
+  leaf_d_tracks = or_word_tracks symbol refl sym_s _ _ (or_word_tracks evariable refl evar_s _ _ (or_word_tracks avariable refl avar_s _ _ (wrong_tracks ts SExp)))
 
   pub datum_tracks : (room : ℕ) → Tracks ts (datum room) (at.datum_p (token_at ts) (length ts) room)
   unfolding datum

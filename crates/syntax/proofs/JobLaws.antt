@@ -19,7 +19,7 @@ use Rattle.language.specs.Words.{fits}
 use Rattle.language.specs.Tokens.{symbol, ename, aname, evariable, avariable, plain, of_job, Token, key_of}
 use Rattle.language.specs.Reader.{is, is_a}
 use Rattle.language.specs.Scope.{is_atomic}
-use Rattle.language.specs.Source.{SExp, symS, pair_s, SParam, SJob, exp, exps, at_of, params}
+use Rattle.language.specs.Source.{SExp, sym_s, pair_s, SParam, SJob, exp, exps, at_of, params}
 use Rattle.language.specs.JobCheck.{Tool, lister, runner, ground_verdict, variables, kinds_verdict, stands_in, stands_in_any, side_fits, sides_verdict, job_verdict}
 use Rattle.syntax.specs.Twins.Standing.{WordAt, NameAt, ExpAt, symbol_at, cons_at, ExpsAt, ParamsAt, SidesAt, JobAt, job_at}
 use Rattle.syntax.specs.Twins.Standing as at
@@ -131,7 +131,7 @@ module _ (tok mtok : ℕ → Token) (n m : ℕ) (tool : Tool) (num val : ℕ →
   datum_uses : {room i : ℕ} {c : SExp} {k : ℕ} → ExpAt tok n of_job room i c k → (datum_of tok mtok n m tool room i).uses ≡ coded (variables tool c)
   datum_uses {room} {i} (symbol_at b x) = leaf_uses tok mtok n m tool room i true b x.kind ∙ none_found tool
     where
-      none_found : (t : Tool) → Fine ≡ coded (variables t (symS (record { at = (tok i).at; num = (tok i).num })))
+      none_found : (t : Tool) → Fine ≡ coded (variables t (sym_s (record { at = (tok i).at; num = (tok i).num })))
       none_found lister = refl
       none_found runner = refl
   datum_uses {room} {i} (at.ExpAt.e_at b x) = leaf_uses tok mtok n m tool room i false b (is_a_other evariable symbol (tok i) x.kind) ∙ variable_found tool (tok i).at _ refl

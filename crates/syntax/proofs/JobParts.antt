@@ -11,7 +11,7 @@ use Rattle.language.specs.Bytes.{txt}
 use Rattle.language.specs.Words.{Word}
 use Rattle.language.specs.Tokens.{Kind, symbol, evariable, avariable, plain, same_kind, key_of, of_job, Token, tokens}
 use Rattle.language.specs.Reader.{is, is_a}
-use Rattle.language.specs.Source.{SExp, symS, evarS, avarS, pair_s, SJob}
+use Rattle.language.specs.Source.{SExp, sym_s, evar_s, avar_s, pair_s, SJob}
 use Rattle.language.specs.Grammar.{standing}
 use Rattle.grammar.specs.Twins.Stored as stored
 use Rattle.job_checker.specs.Twins.JobStored.{val_at}
@@ -56,11 +56,11 @@ module _ (tok tok' : ℕ → Token) (n : ℕ) (alike : (i : ℕ) → Alike (tok'
   name_held k i x = record { below = x.below; kind = ap (λ d. same_kind d k) (alike i).kind ∙ x.kind; fit = (alike i).fit ∙ x.fit }
 
   exp_held : {room i : ℕ} {c : SExp} {k : ℕ} → ExpAt tok n of_job room i c k → ExpAt tok' n of_job room i c k
-  exp_held {room} {i} (symbol_at b x) = subst (λ (t : Token). ExpAt tok' n of_job room i (symS (standing t)) (i + 1)) (same i (is_a_other symbol plain (tok i) x.kind))
+  exp_held {room} {i} (symbol_at b x) = subst (λ (t : Token). ExpAt tok' n of_job room i (sym_s (standing t)) (i + 1)) (same i (is_a_other symbol plain (tok i) x.kind))
       (symbol_at (is_held "(" i ∙ b) (name_held symbol i x))
-  exp_held {room} {i} (at.ExpAt.e_at b x) = subst (λ (t : Token). ExpAt tok' n of_job room i (evarS (standing t)) (i + 1)) (same i (is_a_other evariable plain (tok i) x.kind))
+  exp_held {room} {i} (at.ExpAt.e_at b x) = subst (λ (t : Token). ExpAt tok' n of_job room i (evar_s (standing t)) (i + 1)) (same i (is_a_other evariable plain (tok i) x.kind))
       (at.ExpAt.e_at (is_held "(" i ∙ b) (name_held evariable i x))
-  exp_held {room} {i} (at.ExpAt.a_at b x) = subst (λ (t : Token). ExpAt tok' n of_job room i (avarS (standing t)) (i + 1)) (same i (is_a_other avariable plain (tok i) x.kind))
+  exp_held {room} {i} (at.ExpAt.a_at b x) = subst (λ (t : Token). ExpAt tok' n of_job room i (avar_s (standing t)) (i + 1)) (same i (is_a_other avariable plain (tok i) x.kind))
       (at.ExpAt.a_at (is_held "(" i ∙ b) (name_held avariable i x))
   exp_held (cons_at {room = room} {i = i} {j = j} {k = k} {c = p} {d = q} o w c d e) = subst (λ (a : ℕ). ExpAt tok' n of_job (suc room) i (pair_s a p q) (k + 1)) (alike i).at
       (cons_at (word_held "(" i o) (word_held "cons" (i + 1) w) (exp_held c) (exp_held d) (word_held ")" k e))

@@ -12,7 +12,7 @@ use Rattle.language.specs.Tokens.{Kind, symbol, ename, aname, evariable, avariab
 use Rattle.language.specs.Reader.{ok, Reader, is, is_a, fit_if, roomed, one_fit, one_of, the, the_in}
 use Rattle.grammar.specs.Twins.Positions.{nothing}
 use Rattle.language.specs.Program.{pe, pa}
-use Rattle.language.specs.Source.{Stand, SExp, symS, evarS, avarS, pair_s, SCondition, eqa_s, consp_s, STerm, call_s, conditional_s, result_s, SParam, SDef, SProg}
+use Rattle.language.specs.Source.{Stand, SExp, sym_s, evar_s, avar_s, pair_s, SCondition, eqa_s, consp_s, STerm, call_s, conditional_s, result_s, SParam, SDef, SProg}
 use Rattle.language.specs.Grammar as grammar
 use Rattle.language.specs.Grammar.{standing}
 use Rattle.syntax.specs.Twins.Standing.{WordAt, NameAt, e_kind, a_kind, ExpAt, symbol_at, cons_at, ExpsAt, ConditionAt, eqa_at, consp_at, TermAt, call_at, if_at, result_at, ParamsAt, DefAt, define_at, DefsAt, ProgramAt}
@@ -76,9 +76,9 @@ word_reads {ts} kind = read_as on (bind_reads (one_of_reads 1 kind) (λ t. give_
 
 -- an e or d of one token
 data Leaf (ts : List Token) (text : Text) (i : ℕ) : SExp → ℕ → Type 0 where
-  symbol_leaf : NameAt (token_at ts) (length ts) symbol i → Leaf ts text i (symS (standing (token_at ts i))) (i + 1)
-  e_leaf : NameAt (token_at ts) (length ts) (e_kind text) i → Leaf ts text i (evarS (standing (token_at ts i))) (i + 1)
-  a_leaf : NameAt (token_at ts) (length ts) (a_kind text) i → Leaf ts text i (avarS (standing (token_at ts i))) (i + 1)
+  symbol_leaf : NameAt (token_at ts) (length ts) symbol i → Leaf ts text i (sym_s (standing (token_at ts i))) (i + 1)
+  e_leaf : NameAt (token_at ts) (length ts) (e_kind text) i → Leaf ts text i (evar_s (standing (token_at ts i))) (i + 1)
+  a_leaf : NameAt (token_at ts) (length ts) (a_kind text) i → Leaf ts text i (avar_s (standing (token_at ts i))) (i + 1)
 
 leaf_at_lem : {ts : List Token} {text : Text} {room i : ℕ} {c : SExp} {k : ℕ} → is "(" (token_at ts i) ≡ false → Leaf ts text i c k → ExpAt (token_at ts) (length ts) text room i c k
 leaf_at_lem b (symbol_leaf x) = symbol_at b x
@@ -98,20 +98,20 @@ module _ {ts : List Token} where
   or_word_reads kind z f h = choose_reads (is_a kind) z (bind_reads (word_reads kind) (λ x. give_reads (f x))) h
 
   leaf_reads : Reads ts grammar.leaf (Leaf ts of_program)
-  leaf_reads = read_as on (or_word_reads symbol refl symS (or_word_reads ename refl evarS (or_word_reads aname refl avarS wrong_reads)))
+  leaf_reads = read_as on (or_word_reads symbol refl sym_s (or_word_reads ename refl evar_s (or_word_reads aname refl avar_s wrong_reads)))
     where
-      on : (i : ℕ) (c : SExp) (k : ℕ) → Either ts (is_a symbol) (Both (Standing ts symbol) (λ x. Given (symS x))) (Either ts (is_a ename) (Both (Standing ts ename) (λ x. Given (evarS x)))
-          (Either ts (is_a aname) (Both (Standing ts aname) (λ x. Given (avarS x))) Wrong)) i c k → Leaf ts of_program i c k
+      on : (i : ℕ) (c : SExp) (k : ℕ) → Either ts (is_a symbol) (Both (Standing ts symbol) (λ x. Given (sym_s x))) (Either ts (is_a ename) (Both (Standing ts ename) (λ x. Given (evar_s x)))
+          (Either ts (is_a aname) (Both (Standing ts aname) (λ x. Given (avar_s x))) Wrong)) i c k → Leaf ts of_program i c k
       on i c k (left l b (both x j (stand y) given)) = symbol_leaf y
       on i c k (right b (left l d (both x j (stand y) given))) = e_leaf y
       on i c k (right b (right d (left l e (both x j (stand y) given)))) = a_leaf y
       on i c k (right b (right d (right e w))) = never (Leaf ts of_program) i c k w
 
   leaf_d_reads : Reads ts grammar.leaf_d (Leaf ts of_job)
-  leaf_d_reads = read_as on (or_word_reads symbol refl symS (or_word_reads evariable refl evarS (or_word_reads avariable refl avarS wrong_reads)))
+  leaf_d_reads = read_as on (or_word_reads symbol refl sym_s (or_word_reads evariable refl evar_s (or_word_reads avariable refl avar_s wrong_reads)))
     where
-      on : (i : ℕ) (c : SExp) (k : ℕ) → Either ts (is_a symbol) (Both (Standing ts symbol) (λ x. Given (symS x))) (Either ts (is_a evariable) (Both (Standing ts evariable) (λ x. Given (evarS x)))
-          (Either ts (is_a avariable) (Both (Standing ts avariable) (λ x. Given (avarS x))) Wrong)) i c k → Leaf ts of_job i c k
+      on : (i : ℕ) (c : SExp) (k : ℕ) → Either ts (is_a symbol) (Both (Standing ts symbol) (λ x. Given (sym_s x))) (Either ts (is_a evariable) (Both (Standing ts evariable) (λ x. Given (evar_s x)))
+          (Either ts (is_a avariable) (Both (Standing ts avariable) (λ x. Given (avar_s x))) Wrong)) i c k → Leaf ts of_job i c k
       on i c k (left l b (both x j (stand y) given)) = symbol_leaf y
       on i c k (right b (left l d (both x j (stand y) given))) = e_leaf y
       on i c k (right b (right d (left l e (both x j (stand y) given)))) = a_leaf y

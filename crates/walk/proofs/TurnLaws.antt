@@ -13,7 +13,7 @@ use borrow.Author.Tests.{le-leb, lt-leb}
 use Rattle.expressions.specs.Expression.{Exp}
 use Rattle.expressions.specs.Class.{nodes_class}
 use Rattle.expressions.specs.Substitution.{apply}
-use Rattle.expressions.specs.Intersection.{Intersected, common, disjoint, tooLarge, intersect}
+use Rattle.expressions.specs.Intersection.{Intersected, common, disjoint, too_large, intersect}
 use Rattle.language.specs.Program.{Prog, result}
 use Rattle.semantics.specs.Configuration.{subst_of_env, Configuration}
 use Rattle.semantics.specs.Trace.{Successors, terminal, called, branches, successors}
@@ -36,7 +36,7 @@ use Rattle.values.specs.Twins.Names.{names_from}
 use Rattle.calls.specs.Twins.Calls.{called_to}
 use Rattle.values.proofs.StateLaws.{is_none, Leads}
 use Rattle.atoms.specs.Twins.Atoms.{sides_at}
-use Rattle.atoms.specs.Twins.Choices.{branches_by, branches_of as branchesSame}
+use Rattle.atoms.specs.Twins.Choices.{branches_by, branches_of as branches_same}
 use Rattle.looking.specs.Twins.Looking.{look_at}
 use Rattle.looking.specs.declared.look.Tested.{Tested}
 use Rattle.looking.specs.declared.look.Tested.TheVariants.{Atom, Pair, Variable, Large}
@@ -114,7 +114,7 @@ call_asked code c h f e = rw e
 
 -- a condition has a branch
 some_branch : (n : ℕ) (k : Asked) (q : List ℕ) → is_end k ≡ false → is_call k ≡ false → branches_asked n k q ≡ no_branches → ⊥
-unfolding branchesSame
+unfolding branches_same
 some_branch n End q e c i = false≢true (inv e)
 some_branch n Call q e c i = false≢true (inv c)
 some_branch n (Same x y) q e c i = pick (kind_cells n x y q) i
@@ -334,7 +334,7 @@ module _ (p : Prog) (bodies : ℕ → ℕ) (code : List ℕ) (ok : Accepted p bo
     ended_means : (k : ℕ) (I : Intersected) (g : EndLeft) → EndMeans a (at_end lim k (with_todo [] s) I) g.ended g.answer → (g.ended ≡ EndedOver) ⊎ EndKept st.at.node.at.used roomed.heap g →
         NodeMeans (after_end s.path (at_end lim k (with_todo [] s) I)) (behind g)
     ended_means k disjoint g e t = ended_on (with_todo [] s) refl refl g e t
-    ended_means k tooLarge g e t = ended_over g e.0 e.1
+    ended_means k too_large g e t = ended_over g e.0 e.1
     ended_means k (common Q) g e t = pick (table_full lim Q (with_todo [] s)) e
       where
         pick : (b : Bool) → EndMeans a (with_line k Q (with_todo [] s) b) g.ended g.answer → NodeMeans (after_end s.path (with_line k Q (with_todo [] s) b)) (behind g)

@@ -9,7 +9,7 @@ use native.Mathlib.Omega.{arith}
 use lib.Dec.{eqb}
 use lib.ListN.{length, set, length-set}
 use borrow.Author.Tests.{le-leb, lt-leb, eq-eqb, ne_eqb, ltb-true, ltb-false}
-use Rattle.expressions.specs.Intersection.{Intersected, common, disjoint, tooLarge, intersect}
+use Rattle.expressions.specs.Intersection.{Intersected, common, disjoint, too_large, intersect}
 use Rattle.language.specs.Program.{Prog}
 use Rattle.semantics.specs.Configuration.{nodes_state, Configuration}
 use Rattle.semantics.specs.Trace.{Successors, terminal, called, branches, successors}
@@ -206,7 +206,7 @@ module _ (p : Prog) (bodies : ℕ → ℕ) (code : List ℕ) (ok : Accepted p bo
   -- only a transition that is made counts
   end_count : (s : PathState) (k : ℕ) (I : Intersected) → turn_count (after_end s.path (at_end lim k (with_todo [] s) I)) ≡ s.count
   end_count s k disjoint = refl
-  end_count s k tooLarge = refl
+  end_count s k too_large = refl
   end_count s k (common Q) = pick (table_full lim Q (with_todo [] s))
     where
       pick : (t : Bool) → turn_count (after_end s.path (with_line k Q (with_todo [] s) t)) ≡ s.count

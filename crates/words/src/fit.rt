@@ -1,6 +1,6 @@
 // A word judged: how it fits as a name or a numeral, and its value (language/specs/Words.antt). A fit is its number (specs/twins/Marks.antt).
 ghost use Rattle.std.specs.Prelude.{◌≡◌, ◌-◌, ◌%◌, length, drop};
-ghost use Rattle.language.specs.Words.{same as sameWord, begins as beginsWord, name_fit, is_numeral, numeral_fit, number_fit};
+ghost use Rattle.language.specs.Words.{same as word_same, begins as beginsWord, name_fit, is_numeral, numeral_fit, number_fit};
 ghost use Rattle.words.specs.Twins.Marks.{fit_number};
 ghost use Rattle.words.specs.Twins.Judged.{value_cell};
 
@@ -27,7 +27,7 @@ pub fn begins(start: &[u8], word: &[u8]) -> bool
 
 // The same bytes.
 pub fn same(a: &[u8], b: &[u8]) -> bool
-    ensures { result ≡ sameWord a.now b.now }
+    ensures { result ≡ word_same a.now b.now }
 {
     if a.len() == b.len() {
         return begins(a, b);

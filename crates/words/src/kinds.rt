@@ -1,6 +1,6 @@
 // What a word is: its key among the fixed words, its kind, how it fits, its hash (language/specs/Tokens.antt). A kind is its tag.
 ghost use Rattle.std.specs.Prelude.{◌≡◌, cond, eqb};
-ghost use Rattle.language.specs.Words.{same as sameWord};
+ghost use Rattle.language.specs.Words.{same as word_same};
 ghost use Rattle.language.specs.Tokens.{tag, kind_of, key_of, fit_of};
 ghost use Rattle.words.specs.Twins.Marks.{fit_number, kind_at};
 ghost use Rattle.words.specs.Twins.Judged.{text_of, hash_of};
@@ -50,7 +50,7 @@ fn variable_kind(second: u8) -> u16
 
 // The key of the fixed word where the word is that one.
 fn key_if(fixed: &[u8], key: u16, other: u16, word: &[u8]) -> u16
-    ensures { result ≡ cond (sameWord fixed.now word.now) key other }
+    ensures { result ≡ cond (word_same fixed.now word.now) key other }
 {
     if same(fixed, word) {
         return key;

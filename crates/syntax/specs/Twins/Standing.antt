@@ -7,7 +7,7 @@ use Rattle.language.specs.Words.{fits}
 use Rattle.language.specs.Tokens.{Kind, symbol, ename, aname, evariable, avariable, plain, Text, of_program, of_job, Token}
 use Rattle.language.specs.Reader.{is, is_a}
 use Rattle.language.specs.Program.{pe, pa}
-use Rattle.language.specs.Source.{SExp, symS, evarS, avarS, pair_s, SCondition, eqa_s, consp_s, STerm, call_s, conditional_s, result_s, SParam, SDef, SProg, SJob}
+use Rattle.language.specs.Source.{SExp, sym_s, evar_s, avar_s, pair_s, SCondition, eqa_s, consp_s, STerm, call_s, conditional_s, result_s, SParam, SDef, SProg, SJob}
 use Rattle.language.specs.Grammar.{standing}
 
 -- the fixed word w
@@ -32,9 +32,9 @@ a_kind of_job = avariable
 
 -- "e: `(cons e e)`, xe or ea"; "d: `(cons d d)`, `'Z`, `?eK` or `?aK`"
 pub data ExpAt (tok : ℕ → Token) (n : ℕ) (text : Text) : ℕ → ℕ → SExp → ℕ → Type 0 where
-  symbol_at : {room i : ℕ} → is "(" (tok i) ≡ false → NameAt tok n symbol i → ExpAt tok n text room i (symS (standing (tok i))) (i + 1)
-  e_at : {room i : ℕ} → is "(" (tok i) ≡ false → NameAt tok n (e_kind text) i → ExpAt tok n text room i (evarS (standing (tok i))) (i + 1)
-  a_at : {room i : ℕ} → is "(" (tok i) ≡ false → NameAt tok n (a_kind text) i → ExpAt tok n text room i (avarS (standing (tok i))) (i + 1)
+  symbol_at : {room i : ℕ} → is "(" (tok i) ≡ false → NameAt tok n symbol i → ExpAt tok n text room i (sym_s (standing (tok i))) (i + 1)
+  e_at : {room i : ℕ} → is "(" (tok i) ≡ false → NameAt tok n (e_kind text) i → ExpAt tok n text room i (evar_s (standing (tok i))) (i + 1)
+  a_at : {room i : ℕ} → is "(" (tok i) ≡ false → NameAt tok n (a_kind text) i → ExpAt tok n text room i (avar_s (standing (tok i))) (i + 1)
   cons_at : {room i j k : ℕ} {c d : SExp} → WordAt tok n "(" i → WordAt tok n "cons" (i + 1) →
       ExpAt tok n text room (i + 2) c j → ExpAt tok n text room j d k → WordAt tok n ")" k → ExpAt tok n text (suc room) i (pair_s (tok i).at c d) (k + 1)
 

@@ -8,10 +8,10 @@ use Rattle.linking.specs.Twins.Code.{link_at}
 use Rattle.calls.specs.Twins.Calls.{called_to}
 use Rattle.values.specs.Twins.Names.{names_from}
 use Rattle.atoms.specs.Twins.Atoms.{sides_at}
-use Rattle.atoms.specs.Twins.Choices.{branches_of as branchesSame}
+use Rattle.atoms.specs.Twins.Choices.{branches_of as branches_same}
 use Rattle.atoms.specs.Twins.Taking.{equal_taken, unequal_taken}
 use Rattle.looking.specs.Twins.Looking.{look_at}
-use Rattle.pairs.specs.Twins.Branching.{branches_of as branchesTested, true_taken as testedTrue, false_taken as testedFalse}
+use Rattle.pairs.specs.Twins.Branching.{branches_of as branches_tested, true_taken as tested_true, false_taken as tested_false}
 use Rattle.tracing.specs.declared.ask.Asked.{Asked}
 use Rattle.tracing.specs.declared.ask.Asked.TheVariants.{End, Call, Same, Test}
 
@@ -48,8 +48,8 @@ no_branches = record { yes = false; no = false }
 abbrev pub branches_asked : ℕ → Asked → List ℕ → Branches
 branches_asked neqs End q = no_branches
 branches_asked neqs Call q = no_branches
-branches_asked neqs (Same x y) q = branchesSame neqs x y q
-branches_asked neqs (Test t) q = branchesTested t
+branches_asked neqs (Same x y) q = branches_same neqs x y q
+branches_asked neqs (Test t) q = branches_tested t
 
 -- `cons?` and calls leave the non-equalities as they are
 abbrev pub beside : List ℕ → Move → Left
@@ -59,13 +59,13 @@ abbrev pub true_taken : List ℕ → Configuration → Asked → List ℕ → Li
 true_taken code c End h f q = left Over h f q
 true_taken code c Call h f q = beside q (called_to code (names_from c) c h f)
 true_taken code c (Same x y) h f q = equal_taken code c x y h f q
-true_taken code c (Test t) h f q = beside q (testedTrue code c t h f)
+true_taken code c (Test t) h f q = beside q (tested_true code c t h f)
 
 abbrev pub false_taken : List ℕ → Configuration → Asked → List ℕ → List ℕ → List ℕ → Left
 false_taken code c End h f q = left Over h f q
 false_taken code c Call h f q = beside q (called_to code (names_from c) c h f)
 false_taken code c (Same x y) h f q = unequal_taken code c x y h f q
-false_taken code c (Test t) h f q = beside q (testedFalse code c t h f)
+false_taken code c (Test t) h f q = beside q (tested_false code c t h f)
 
 abbrev pub taken_as : List ℕ → Configuration → Asked → Bool → List ℕ → List ℕ → List ℕ → Left
 taken_as code c a true h f q = true_taken code c a h f q
