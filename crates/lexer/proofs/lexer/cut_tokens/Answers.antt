@@ -1,12 +1,7 @@
-use mathlib.Core.Path.{◌≡◌, refl, ap, ◌∙◌, sym}
+use mathlib.Core.Path.{refl, ◌∙◌}
 use native.Mathlib.Omega.{arith}
-use Prim.Native.Nat.{◌-◌, ◌≤◌}
-use lib.ListN.{length}
-use Rattle.lexer.specs.Twins.Chains.{Linked}
-use Rattle.lexer.specs.Twins.Lexed.{starting, cut_from}
 use Rattle.lexer.proofs.ChainLaws.{linked_start, linked_turn}
 use Rattle.lexer.proofs.LexedLaws.{state, cut_end, cut_shut, turned, length_stored, length_entered}
-use borrow.Author.Rules.{rules}
 use Rattle.lexer.proofs.lexer.cut_tokens.Goals as goal
 
 pub loop-i-init : goal.loop-i-init

@@ -1,7 +1,6 @@
-use mathlib.Core.Path.{◌≡◌, refl, ap, ◌∙◌, sym}
+use mathlib.Core.Path.{ap, ◌∙◌}
 use lib.Dec.{eqb}
 use Rattle.lexer.proofs.LexedLaws.{token_made}
-use borrow.Author.Rules.{rules}
 use Rattle.lexer.proofs.lexer.token_from.Goals as goal
 
 pub returns : goal.returns

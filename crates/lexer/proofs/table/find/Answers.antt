@@ -1,9 +1,8 @@
-use mathlib.Core.Path.{◌≡◌, refl, ap, ◌∙◌, sym}
+use mathlib.Core.Path.{◌≡◌, ap, ◌∙◌, sym}
 use native.Mathlib.Omega.{arith}
-use Prim.Native.Nat.{◌+◌, ◌-◌, ◌≤◌}
+use Prim.Native.Nat.{◌+◌, ◌-◌}
 use Rattle.lexer.specs.Twins.Table.{find_at}
 use Rattle.lexer.proofs.TableLaws.{find_none, find_here, find_on}
-use borrow.Author.Rules.{rules}
 use Rattle.lexer.proofs.table.find.Goals as goal
 
 pub loop-k-init : goal.loop-k-init

@@ -1,9 +1,6 @@
-use mathlib.Core.Path.{◌≡◌, refl, ap, ◌∙◌, sym}
-use native.Mathlib.Omega.{arith}
-use Prim.Native.Nat.{◌+◌, ◌-◌, ◌≤◌}
+use mathlib.Core.Path.{◌≡◌}
+use Prim.Native.Nat.{◌-◌, ◌≤◌}
 use Rattle.lexer.specs.Twins.Table.{find_at}
-use Rattle.lexer.proofs.TableLaws.{find_none, find_here, find_on}
-use borrow.Author.Rules.{rules}
 use Rattle.lexer.proofs.table.find.Given as goal
 
 abbrev pub invariant-loop-k : goal.invariant-loop-k

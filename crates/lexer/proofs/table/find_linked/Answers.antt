@@ -1,8 +1,7 @@
-use mathlib.Core.Path.{◌≡◌, ap, ◌∙◌, sym}
+use mathlib.Core.Path.{ap, ◌∙◌, sym}
 use Prim.Native.Nat.{◌+◌}
 use lib.ListN.{get_or}
-use Rattle.lexer.proofs.ChainLaws.{Passed, passed_none, passed_less, passed_here, passed_on, passed_all}
-use borrow.Author.Rules.{rules}
+use Rattle.lexer.proofs.ChainLaws.{passed_none, passed_less, passed_here, passed_on, passed_all}
 use Rattle.lexer.proofs.table.find_linked.Goals as goal
 
 pub loop-k-init : goal.loop-k-init

@@ -4,7 +4,6 @@ use Prim.Native.Nat.{◌+◌, ◌-◌}
 use lib.ListN.{length}
 use Rattle.lexer.specs.Twins.Chains.{linked, linked_all}
 use Rattle.lexer.proofs.ChainLaws.{all_none, all_more, length_linked}
-use borrow.Author.Rules.{rules}
 use Rattle.lexer.proofs.table.link_all.Goals as goal
 
 pub loop-k-init : goal.loop-k-init

@@ -1,10 +1,7 @@
-use mathlib.Core.Path.{◌≡◌, refl, ap, ◌∙◌, sym}
-use native.Mathlib.Omega.{arith}
-use Prim.Native.Nat.{◌+◌, ◌-◌}
+use mathlib.Core.Path.{◌≡◌}
+use Prim.Native.Nat.{◌-◌}
 use lib.ListN.{length}
-use Rattle.lexer.specs.Twins.Chains.{linked, linked_all}
-use Rattle.lexer.proofs.ChainLaws.{all_none, all_more, length_linked}
-use borrow.Author.Rules.{rules}
+use Rattle.lexer.specs.Twins.Chains.{linked_all}
 use Rattle.lexer.proofs.table.link_all.Given as goal
 
 abbrev pub invariant-loop-k : goal.invariant-loop-k

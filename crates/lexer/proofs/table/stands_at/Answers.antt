@@ -1,7 +1,6 @@
 use mathlib.Core.Path.{ap, sym, ◌∙◌}
 use Rattle.language.specs.Words.{begins}
 use Rattle.lexer.proofs.TableMeaning.{other_word}
-use borrow.Author.Rules.{rules}
 use Rattle.lexer.proofs.table.stands_at.Goals as goal
 
 pub returns-then-begins : goal.returns-then-begins

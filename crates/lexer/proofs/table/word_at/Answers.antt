@@ -1,5 +1,4 @@
 use Rattle.words.specs.Twins.Cutting.{word_at}
-use borrow.Author.Rules.{rules}
 use Rattle.lexer.proofs.table.word_at.Goals as goal
 
 pub returns : goal.returns
