@@ -1,0 +1,7 @@
+use Rattle.grammar.proofs.TextReaders.{numeral_opens}
+use borrow.Author.Rules.{rules}
+use Rattle.grammar.proofs.jobs.numeral.Goals as goal
+
+pub returns : goal.returns
+returns c =
+    rw (numeral_opens, ← c.the-opened.ensures, ← c.the-named.ensures, ← c.word-one.ensures) c.the.ensures

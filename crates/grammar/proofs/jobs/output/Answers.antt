@@ -1,0 +1,7 @@
+use Rattle.grammar.proofs.TextReaders.{output_opens}
+use borrow.Author.Rules.{rules}
+use Rattle.grammar.proofs.jobs.output.Goals as goal
+
+pub returns : goal.returns
+returns c =
+    rw (output_opens, ← c.the-opened.ensures, ← c.the-named.ensures, ← c.tree-one.ensures) c.the.ensures

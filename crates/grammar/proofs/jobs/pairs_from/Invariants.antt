@@ -1,0 +1,14 @@
+use borrow.Author.Tests.{le-leb, lt-leb, lt-ltb, le-ltb, eq-eqb, ne_eqb}
+use mathlib.Core.Path.{◌≡◌, refl, ap, ◌∙◌, sym}
+use Prim.Native.Nat.{◌-◌}
+use Rattle.grammar.specs.Twins.Stored.{pairs_at}
+use Rattle.grammar.proofs.TextReaders.{pairs_end, pairs_close, pairs_on}
+use borrow.Author.Rules.{rules}
+use Rattle.grammar.proofs.jobs.pairs_from.Given as goal
+
+abbrev pub invariant-loop-left : goal.invariant-loop-left
+invariant-loop-left l =
+    pairs_at l.marks l.ats (4097 - l.start) l.start ≡ pairs_at l.marks l.ats l.left l.at
+
+abbrev pub decreases-loop-left : goal.decreases-loop-left
+decreases-loop-left l = l.left

@@ -1,0 +1,5 @@
+use Prim.Native.Nat.{ℕ, ◌<◌}
+use Rattle.grammar.proofs.readers.+tree.Given as goal
+
+abbrev pub decreases-tree : goal.decreases-tree
+decreases-tree l = l.room
