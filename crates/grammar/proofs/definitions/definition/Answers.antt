@@ -1,5 +1,4 @@
 use Rattle.grammar.proofs.TextReaders.{definition_opens}
-use borrow.Author.Rules.{rules}
 use Rattle.grammar.proofs.definitions.definition.Goals as goal
 
 pub returns : goal.returns

@@ -1,8 +1,6 @@
-use borrow.Author.Tests.{le-leb, lt-leb, lt-ltb, le-ltb, eq-eqb, ne_eqb}
-use mathlib.Core.Path.{◌≡◌, refl, ap, ◌∙◌, sym}
-use Rattle.grammar.specs.Twins.Stored.{definitions_at}
+use borrow.Author.Tests.{eq-eqb, ne_eqb}
+use mathlib.Core.Path.{◌∙◌, sym}
 use Rattle.grammar.proofs.TextReaders.{definitions_close, definitions_on, definitions_full}
-use borrow.Author.Rules.{rules}
 use Rattle.grammar.proofs.definitions.definitions_from.Goals as goal
 
 pub loop-room-init : goal.loop-room-init

@@ -1,7 +1,6 @@
-use borrow.Author.Tests.{le-leb, lt-leb, lt-ltb, le-ltb, eq-eqb, ne_eqb}
-use mathlib.Core.Path.{◌≡◌, refl, ap, ◌∙◌, sym}
+use borrow.Author.Tests.{eq-eqb, ne_eqb}
+use mathlib.Core.Path.{◌∙◌, sym}
 use Rattle.grammar.proofs.TextReaders.{parameter_e, parameter_a}
-use borrow.Author.Rules.{rules}
 use Rattle.grammar.proofs.definitions.parameter.Goals as goal
 
 pub returns-then-kind-eq-ENAME : goal.returns-then-kind-eq-ENAME

@@ -1,8 +1,6 @@
-use borrow.Author.Tests.{le-leb, lt-leb, lt-ltb, le-ltb, eq-eqb, ne_eqb}
-use mathlib.Core.Path.{◌≡◌, refl, ap, ◌∙◌, sym}
-use Rattle.grammar.specs.Twins.Stored.{parameters_at}
+use borrow.Author.Tests.{eq-eqb, ne_eqb}
+use mathlib.Core.Path.{◌∙◌, sym}
 use Rattle.grammar.proofs.TextReaders.{parameters_close, parameters_on, parameters_full}
-use borrow.Author.Rules.{rules}
 use Rattle.grammar.proofs.definitions.parameters_from.Goals as goal
 
 pub loop-room-init : goal.loop-room-init

@@ -1,8 +1,5 @@
-use borrow.Author.Tests.{le-leb, lt-leb, lt-ltb, le-ltb, eq-eqb, ne_eqb}
-use mathlib.Core.Path.{◌≡◌, refl, ap, ◌∙◌, sym}
+use mathlib.Core.Path.{◌≡◌}
 use Rattle.grammar.specs.Twins.Stored.{parameters_at}
-use Rattle.grammar.proofs.TextReaders.{parameters_close, parameters_on, parameters_full}
-use borrow.Author.Rules.{rules}
 use Rattle.grammar.proofs.definitions.parameters_from.Given as goal
 
 abbrev pub invariant-loop-room : goal.invariant-loop-room

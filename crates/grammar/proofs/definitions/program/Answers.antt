@@ -1,5 +1,4 @@
 use Rattle.grammar.proofs.TextReaders.{program_opens}
-use borrow.Author.Rules.{rules}
 use Rattle.grammar.proofs.definitions.program.Goals as goal
 
 pub returns-in-Refused : goal.returns-in-Refused

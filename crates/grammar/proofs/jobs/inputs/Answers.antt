@@ -1,5 +1,4 @@
 use Rattle.grammar.proofs.TextReaders.{inputs_open}
-use borrow.Author.Rules.{rules}
 use Rattle.grammar.proofs.jobs.inputs.Goals as goal
 
 pub returns : goal.returns

@@ -1,5 +1,4 @@
 use Rattle.grammar.proofs.TextReaders.{job_opens}
-use borrow.Author.Rules.{rules}
 use Rattle.grammar.proofs.jobs.job.Goals as goal
 
 pub returns : goal.returns

@@ -1,5 +1,4 @@
 use Rattle.grammar.proofs.TextReaders.{non_equalities_open}
-use borrow.Author.Rules.{rules}
 use Rattle.grammar.proofs.jobs.non_equalities.Goals as goal
 
 pub returns : goal.returns

@@ -1,5 +1,4 @@
 use Rattle.grammar.proofs.TextReaders.{numeral_opens}
-use borrow.Author.Rules.{rules}
 use Rattle.grammar.proofs.jobs.numeral.Goals as goal
 
 pub returns : goal.returns

@@ -1,5 +1,4 @@
 use Rattle.grammar.proofs.TextReaders.{output_opens}
-use borrow.Author.Rules.{rules}
 use Rattle.grammar.proofs.jobs.output.Goals as goal
 
 pub returns : goal.returns

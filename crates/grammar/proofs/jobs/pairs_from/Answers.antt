@@ -1,9 +1,6 @@
-use borrow.Author.Tests.{le-leb, lt-leb, lt-ltb, le-ltb, eq-eqb, ne_eqb}
-use mathlib.Core.Path.{◌≡◌, refl, ap, ◌∙◌, sym}
-use Prim.Native.Nat.{◌-◌}
-use Rattle.grammar.specs.Twins.Stored.{pairs_at}
+use borrow.Author.Tests.{eq-eqb, ne_eqb}
+use mathlib.Core.Path.{◌∙◌, sym}
 use Rattle.grammar.proofs.TextReaders.{pairs_end, pairs_close, pairs_on}
-use borrow.Author.Rules.{rules}
 use Rattle.grammar.proofs.jobs.pairs_from.Goals as goal
 
 pub loop-left-init : goal.loop-left-init

@@ -1,5 +1,4 @@
 use Rattle.grammar.proofs.TextReaders.{sides_opens}
-use borrow.Author.Rules.{rules}
 use Rattle.grammar.proofs.jobs.sides.Goals as goal
 
 pub returns : goal.returns

@@ -1,8 +1,6 @@
 use mathlib.Core.Path.{◌∙◌, sym}
 use borrow.Author.Tests.{eq-eqb, ne_eqb}
 use Rattle.grammar.proofs.StoredReaders.{tree_leaf, tree_shut, tree_more}
-use borrow.Author.Rules.{rules}
-use Prim.Native.Nat.{ℕ, ◌<◌}
 use Rattle.grammar.proofs.readers.+tree.Goals as goal
 
 pub returns-then-room-eq0 : goal.returns-then-room-eq0

@@ -1,4 +1,3 @@
-use Prim.Native.Nat.{ℕ, ◌<◌}
 use Rattle.grammar.proofs.readers.+tree.Given as goal
 
 abbrev pub decreases-tree : goal.decreases-tree

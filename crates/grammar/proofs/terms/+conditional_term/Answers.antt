@@ -1,8 +1,6 @@
-use borrow.Author.Tests.{le-leb, lt-leb, lt-ltb, le-ltb, eq-eqb, ne_eqb}
-use mathlib.Core.Path.{◌≡◌, refl, ap, ◌∙◌, sym}
+use borrow.Author.Tests.{eq-eqb, ne_eqb}
+use mathlib.Core.Path.{◌∙◌, sym}
 use Rattle.grammar.proofs.TermReaders.{conditional_opens, term_shut, term_leaf, term_form}
-use borrow.Author.Rules.{rules}
-use Prim.Native.Nat.{ℕ, ◌+◌, ◌<◌}
 use Rattle.grammar.proofs.terms.+conditional_term.Goals as goal
 
 pub conditional-returns : goal.conditional-returns

@@ -1,4 +1,4 @@
-use Prim.Native.Nat.{ℕ, ◌+◌, ◌<◌}
+use Prim.Native.Nat.{◌+◌}
 use Rattle.grammar.proofs.terms.+conditional_term.Given as goal
 
 abbrev pub decreases-conditional : goal.decreases-conditional

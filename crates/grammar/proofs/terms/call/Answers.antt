@@ -1,5 +1,4 @@
 use Rattle.grammar.proofs.TermReaders.{call_opens}
-use borrow.Author.Rules.{rules}
 use Rattle.grammar.proofs.terms.call.Goals as goal
 
 pub returns : goal.returns

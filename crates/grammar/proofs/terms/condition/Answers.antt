@@ -1,5 +1,4 @@
 use Rattle.grammar.proofs.TermReaders.{condition_shut, condition_more}
-use borrow.Author.Rules.{rules}
 use Rattle.grammar.proofs.terms.condition.Goals as goal
 
 pub returns-then-room-eq0 : goal.returns-then-room-eq0

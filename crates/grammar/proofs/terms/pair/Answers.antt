@@ -1,5 +1,4 @@
 use Rattle.grammar.proofs.TermReaders.{pair_opens}
-use borrow.Author.Rules.{rules}
 use Rattle.grammar.proofs.terms.pair.Goals as goal
 
 pub returns : goal.returns

@@ -1,7 +1,6 @@
-use borrow.Author.Tests.{le-leb, lt-leb, lt-ltb, le-ltb, eq-eqb, ne_eqb}
-use mathlib.Core.Path.{◌≡◌, refl, ap, ◌∙◌, sym}
+use borrow.Author.Tests.{eq-eqb, ne_eqb}
+use mathlib.Core.Path.{◌∙◌, sym}
 use Rattle.grammar.proofs.TermReaders.{test_eqa, test_cons}
-use borrow.Author.Rules.{rules}
 use Rattle.grammar.proofs.terms.test.Goals as goal
 
 pub returns-then-key-eq-EQA : goal.returns-then-key-eq-EQA

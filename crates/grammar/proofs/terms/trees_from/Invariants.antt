@@ -1,9 +1,6 @@
-use borrow.Author.Tests.{le-leb, lt-leb, lt-ltb, le-ltb, eq-eqb, ne_eqb}
-use mathlib.Core.Path.{◌≡◌, refl, ap, ◌∙◌, sym}
+use mathlib.Core.Path.{◌≡◌}
 use Prim.Native.Nat.{◌-◌}
 use Rattle.grammar.specs.Twins.Stored.{trees_at}
-use Rattle.grammar.proofs.TermReaders.{trees_end, trees_close, trees_on}
-use borrow.Author.Rules.{rules}
 use Rattle.grammar.proofs.terms.trees_from.Given as goal
 
 abbrev pub invariant-loop-left : goal.invariant-loop-left
