@@ -5,7 +5,7 @@ ghost use Rattle.calls.specs.Twins.Arguments.{counted, taken_as, argue_left, arg
 use cells::cell;
 use heap::entry::{Pushed, push_entry};
 use linking::code::{NAME, link_at};
-use values::tokens::{entry_at, place_at_lem};
+use values::tokens::{entry_at, place_at};
 use values::value::{Valued, value};
 
 // Done: the entries there are, what is used of the heap, and the nodes. Over: 21, "over 4,097 nodes", or no room.
@@ -65,7 +65,7 @@ fn argument(
     let mark = l.mark;
     let first = l.first;
     if mark == NAME {
-        let e = entry_at(frame, place_at_lem(base, first));
+        let e = entry_at(frame, place_at(base, first));
         let p = push_entry(frame, entries, e.known, e.from, e.to);
         return taken(p, used, count(nodes, e.from, e.to));
     }

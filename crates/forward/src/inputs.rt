@@ -4,7 +4,7 @@ ghost use Rattle.running.specs.Twins.Answers.{ran_answer};
 ghost use Rattle.forward.specs.Twins.Running.{run_begun, run_inputs};
 
 use crate::run::run_on;
-use initial::begin::{Begun, begin, main_body_lem};
+use initial::begin::{Begun, begin, main_body};
 use running::ran::{Ran, settle};
 use syntax::job_ends::JobEnds;
 
@@ -43,7 +43,7 @@ pub fn run_inputs(
     let mut heap: [u16; 65535] = [0; 65535];
     let mut frame: [u16; 12360] = [0; 12360];
     let mut q: [u16; 4096] = [0; 4096];
-    let body = main_body_lem(marks, heads);
+    let body = main_body(marks, heads);
     let b = begin(
         body, jmarks, jnums, parts, &mut heap, &mut frame, &mut q, true,
     );

@@ -14,7 +14,7 @@ use restrictions::restriction::Restricted;
 use syntax::job_ends::JobEnds;
 
 // Where main's body starts, by the index of its name: behind its parameters.
-pub fn main_body_lem(marks: &[u16], heads: &[u16; 64]) -> usize
+pub fn main_body(marks: &[u16], heads: &[u16; 64]) -> usize
     ensures { result ≡ main_body marks.now heads.now }
 {
     let name = cell::wide(heads[0]);

@@ -10,7 +10,7 @@ ghost use Rattle.resolve.specs.ListDemand.{Answered, StoredListing};
 ghost use Rattle.resolve.specs.Twins.ListCells.{ended_as, came_to, read_left, listed_read, ListOut, list_texts};
 
 use answers::list::{Answer, Word, of_program, unstopped};
-use initial::begin::main_body_lem;
+use initial::begin::main_body;
 use lent::clear::clear;
 use lent::room;
 use lent::room::short_for_lines;
@@ -77,7 +77,7 @@ pub fn list_read(
             let mut code: [u16; 24582] = [0; 24582];
             link_program(marks, nums, ends, heads, count, &mut code);
             let tokens = program_end(ends, heads, count);
-            let body = main_body_lem(marks, heads);
+            let body = main_body(marks, heads);
             clear(answer);
             let walked = walk_job(
                 &mut code, tokens, body, jmarks, jnums, parts, numerals, answer,

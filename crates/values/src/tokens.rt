@@ -39,7 +39,7 @@ pub fn entry_at(frame: &[u16; 12360], i: usize) -> Place
 }
 
 // The entry of the name with this place, the names' entries from `base` on.
-pub fn place_at_lem(base: usize, place: u16) -> usize
+pub fn place_at(base: usize, place: u16) -> usize
     ensures { result ≡ place_at base place }
 {
     cell::least(base, 4120) + cell::wide(place)
@@ -73,7 +73,7 @@ fn push_token(
         return push_cell(heap, first, k);
     }
     if mark == NAME {
-        let e = entry_at(frame, place_at_lem(base, first));
+        let e = entry_at(frame, place_at(base, first));
         return run::append(heap, e.from, e.to, k);
     }
     Filled::Done(k)

@@ -2,7 +2,7 @@
 ghost use Rattle.std.specs.Prelude.{◌≡◌, ◌-◌, ◌≤◌, ◌<◌};
 ghost use Rattle.values.specs.Twins.Values.{made_at, head_end_at, known_pair, made_of, value_left, value_at};
 
-use crate::tokens::{entry_at, place_at_lem, push_tokens};
+use crate::tokens::{entry_at, place_at, push_tokens};
 use cells::cell;
 use constants::table::constant_at;
 use linking::code::{NAME, link_at};
@@ -115,7 +115,7 @@ pub fn value(
     let first = l.first;
     let past = l.past;
     if mark == NAME {
-        let e = entry_at(frame, place_at_lem(base, first));
+        let e = entry_at(frame, place_at(base, first));
         return Valued::At {
             from: e.from,
             to: e.to,
