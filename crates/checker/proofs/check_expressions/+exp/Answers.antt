@@ -1,7 +1,5 @@
 use borrow.Author.Tests.{eq-eqb, ne_eqb}
 use Rattle.checker.proofs.CheckOpenings.{exp_more, exp_none}
-use borrow.Author.Rules.{rules}
-use Prim.Native.Nat.{ℕ, ◌<◌}
 use Rattle.checker.proofs.check_expressions.+exp.Goals as goal
 
 pub returns-then-room-eq0 : goal.returns-then-room-eq0

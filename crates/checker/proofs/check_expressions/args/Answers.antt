@@ -1,10 +1,5 @@
 use borrow.Author.Tests.{eq-eqb, ne_eqb}
-use mathlib.Core.Path.{◌≡◌}
-use mathlib.Core.Bool.{true}
-use Rattle.verdicts.specs.declared.found.Verdict.TheVariants.{Fine}
-use Rattle.checker.specs.Twins.CheckStored.{args_at}
 use Rattle.checker.proofs.CheckOpenings.{not_zero, is_zero, args_more, args_none}
-use borrow.Author.Rules.{rules}
 use Rattle.checker.proofs.check_expressions.args.Goals as goal
 
 pub returns-then-key-eq-CLOSE_LIST : goal.returns-then-key-eq-CLOSE_LIST

@@ -1,5 +1,4 @@
 use Rattle.checker.specs.Twins.CheckAt.{binding_at}
-use borrow.Author.Rules.{rules}
 use Rattle.checker.proofs.check_expressions.binding.Goals as goal
 
 pub returns : goal.returns

@@ -1,7 +1,4 @@
-use mathlib.Core.Path.{◌≡◌}
-use Rattle.checker.specs.Twins.CheckStored.{is_named}
 use Rattle.checker.proofs.CheckOpenings.{not_zero, is_zero, named_more, named_none}
-use borrow.Author.Rules.{rules}
 use Rattle.checker.proofs.check_expressions.is_named.Goals as goal
 
 pub returns-then-same_name : goal.returns-then-same_name

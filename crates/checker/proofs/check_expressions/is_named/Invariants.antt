@@ -1,7 +1,5 @@
 use mathlib.Core.Path.{◌≡◌}
 use Rattle.checker.specs.Twins.CheckStored.{is_named}
-use Rattle.checker.proofs.CheckOpenings.{not_zero, is_zero, named_more, named_none}
-use borrow.Author.Rules.{rules}
 use Rattle.checker.proofs.check_expressions.is_named.Given as goal
 
 abbrev pub invariant-loop-left : goal.invariant-loop-left
