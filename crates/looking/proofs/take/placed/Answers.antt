@@ -1,0 +1,3 @@
+use Rattle.looking.specs.Twins.Taking.{placed_as}
+use borrow.Author.Rules.{rules}
+use Rattle.looking.proofs.take.placed.Goals as goal
