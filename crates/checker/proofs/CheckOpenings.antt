@@ -10,7 +10,7 @@ use Rattle.verdicts.specs.declared.found.Verdict.{Verdict}
 use Rattle.verdicts.specs.declared.found.Verdict.TheVariants.{Fine, Fault}
 use Rattle.checker.specs.declared.check.Names.{Names}
 use Rattle.checker.specs.declared.check.Defs.{Defs}
-use Rattle.checker.specs.Twins.CheckAt.{Put, first, ahead, arguments, no_names, names, push, pick, pick_term, same_name, is_named, in_reach, leaf_at, pair_at, exp_at, arg_at, args_at, place_at, form_at, term_at, params_at, params_end, params_twice, def_at, defs_at, body_at, bodies_at}
+use Rattle.checker.specs.Twins.CheckAt.{Put, first, ahead, arguments, names, push, pick, pick_term, same_name, is_named, in_reach, leaf_at, pair_at, exp_at, arg_at, args_at, place_at, form_at, term_at, params_at, params_end, params_twice, def_at, defs_at, body_at, bodies_at}
 
 -- the number that falls is 0, or the next of the one before it
 pub less : (k : ℕ) → suc k - 1 ≡ k

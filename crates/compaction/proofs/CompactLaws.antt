@@ -8,7 +8,6 @@ use lib.ListN.{length, get_or}
 use lib.Seq.{sets, length-sets}
 use borrow.Author.Tests.{le-leb, lt-leb, le-ltb}
 use Rattle.expressions.specs.Expression.{Exp, nodes, nodes_all}
-use Rattle.sets.specs.Cells.{cells}
 use Rattle.sets.specs.Twins.Fill.{FillAnswer}
 use Rattle.sets.specs.declared.fill.Filled.TheVariants.{Done}
 use Rattle.runs.specs.Twins.Runs.{cells_at, run, appended}

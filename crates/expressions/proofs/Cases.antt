@@ -2,14 +2,13 @@
 use Prim.Native.Nat.{ℕ}
 use mathlib.Core.Path.{◌≡◌, refl}
 use mathlib.Core.Bool.{Bool}
-use mathlib.Core.List.{List, [], ◌∷◌}
-use mathlib.Core.Option.{Option, some}
+use mathlib.Core.List.{[], ◌∷◌}
+use mathlib.Core.Option.{some}
 use lib.Dec.{ltb}
 use Rattle.expressions.specs.Expression.{AtomicExp, sym, avar, Exp, atm, evar, pair}
-use Rattle.expressions.specs.Restriction.{NonEquality, Restriction, simplify}
-use Rattle.expressions.specs.Contraction.{CRPair, Contraction, bind_e, bind_a}
-use Rattle.expressions.specs.Class.{IOClass}
-use Rattle.expressions.specs.Intersection.{meeting, disagreement, Intersected, common, too_large, unify, intersect, nodes_meeting}
+use Rattle.expressions.specs.Restriction.{NonEquality, simplify}
+use Rattle.expressions.specs.Contraction.{CRPair, bind_e, bind_a}
+use Rattle.expressions.specs.Intersection.{meeting, disagreement, common, too_large, unify, intersect, nodes_meeting}
 
 abbrev neq : AtomicExp → AtomicExp → NonEquality
 neq x y = record { left = x; right = y }

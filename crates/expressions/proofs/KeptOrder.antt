@@ -1,5 +1,5 @@
 -- Simplification keeps the order, so that the non-equalities of a line are printed "oldest first" (01, "Printing").
-use mathlib.Core.Path.{◌≡◌, ap, subst, ◌∙◌, sym as inv}
+use mathlib.Core.Path.{◌≡◌, subst, ◌∙◌, sym as inv}
 use mathlib.Core.List.{[], ◌∷◌, ◌++◌, append-nil, append_assoc}
 use mathlib.Core.Option.{some, none-ne-some, some-injective}
 use Rattle.expressions.specs.Restriction.{NonEquality, Restriction, Kind, contradiction, redundant, kept, kind, keep_or_drop, simplify_after, simplify}

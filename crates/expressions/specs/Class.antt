@@ -1,5 +1,5 @@
 -- Sequences and io-classes (001, figure 8 and definition 32).
-use Rattle.std.specs.Prelude.{ℕ, ◌+◌, ◌≡◌, List, [], ◌∷◌}
+use Rattle.std.specs.Prelude.{ℕ, ◌+◌, List}
 use Rattle.expressions.specs.Expression.{Value, Exp, nodes, nodes_all}
 use Rattle.expressions.specs.Substitution.{GroundSubst, ground_exp, ground_all, Substitution, apply, apply_all}
 use Rattle.expressions.specs.Restriction.{nodes_restriction}

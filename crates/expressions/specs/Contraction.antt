@@ -1,9 +1,9 @@
 -- Cr-pairs, their concretization, and contractions (001, definitions 6, 21, 24, 25 and 27).
-use Rattle.std.specs.Prelude.{ℕ, ◌≡◌, cond, List, [], ◌∷◌}
+use Rattle.std.specs.Prelude.{ℕ, ◌≡◌, cond, [], ◌∷◌}
 use Rattle.std.proofs.Math.Option.{Option, none, some}
 use Rattle.expressions.specs.Expression.{AtomicExp, sym, avar, Exp}
 use Rattle.expressions.specs.Substitution.{GroundSubst, Substitution, id_subst, subst_e, subst_a}
-use Rattle.expressions.specs.Restriction.{NonEquality, Restriction, Satisfies, same_atomic, subst_restriction, add}
+use Rattle.expressions.specs.Restriction.{Restriction, Satisfies, same_atomic, subst_restriction, add}
 
 -- A kind of c-construction (definition 3, extended in section 5): what a substitution makes of it, what a ground_exp one does.
 pub record Construction : Type 1 where

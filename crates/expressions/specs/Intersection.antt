@@ -1,8 +1,8 @@
 -- The intersection of a class with an output (001, definition 36): "At an end, the output u meets the wanted w".
-use Rattle.std.specs.Prelude.{ℕ, zero, suc, ◌+◌, Bool, true, false, cond, ◌||◌, List, [], ◌∷◌, eqb}
+use Rattle.std.specs.Prelude.{ℕ, zero, suc, ◌+◌, Bool, true, false, cond, ◌||◌, eqb}
 use Rattle.std.proofs.Math.Option.{Option, none, some}
-use Rattle.expressions.specs.Expression.{Value, AtomicExp, Exp, atm, evar, pair, nodes}
-use Rattle.expressions.specs.Substitution.{GroundSubst, ground_exp, Substitution, apply}
+use Rattle.expressions.specs.Expression.{Value, Exp, atm, evar, pair, nodes}
+use Rattle.expressions.specs.Substitution.{ground_exp, apply}
 use Rattle.expressions.specs.Restriction.{nodes_restriction}
 use Rattle.expressions.specs.Contraction.{Construction, CRPair, Contraction, identity, contra, bind_e, bind_a, non_equal, contract, equality_contraction}
 use Rattle.expressions.specs.Class.{IOPair, GroundPair, apply_io, ground_io, IOClass, nodes_io}

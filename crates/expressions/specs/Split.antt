@@ -2,7 +2,7 @@
 use Rattle.std.specs.Prelude.{ℕ, suc, ◌+◌, max, List, [], ◌∷◌, ◌⊎◌, ◌↔◌}
 use Rattle.std.proofs.Math.Option.{Option, none, some}
 use Rattle.expressions.specs.Expression.{AtomicExp, sym, avar, Exp, atm, evar, pair}
-use Rattle.expressions.specs.Restriction.{NonEquality, Restriction}
+use Rattle.expressions.specs.Restriction.{Restriction}
 use Rattle.expressions.specs.Contraction.{Construction, CRPair, InConcretization, Contraction, bind_e, non_equal, equality_contraction, contract}
 use Rattle.expressions.specs.Class.{IOClass}
 

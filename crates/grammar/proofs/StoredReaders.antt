@@ -13,7 +13,7 @@ use Rattle.words.specs.declared.got.Got.{Got}
 use Rattle.words.specs.declared.got.Got.TheVariants.{Past, Refused}
 use Rattle.grammar.specs.Twins.Positions.{on_past, seq_p, pick_p, tree_p}
 use Rattle.words.specs.Twins.Marks.{kind_at, kind_tag, fit_at}
-use Rattle.grammar.specs.Twins.Stored.{mark_at, seen, wrong_at, the_in_at, leaf_at, tree_at}
+use Rattle.grammar.specs.Twins.Stored.{mark_at, wrong_at, the_in_at, leaf_at, tree_at}
 
 pub roomed_more : {k : ℕ} → (k ≡ 0 → ⊥) → (f : Fit) → roomed k f ≡ f
 roomed_more {k = zero} h f = absurd (h refl)

@@ -1,13 +1,13 @@
 -- One step of the readers of lists, conditions and terms over stored tokens.
 use Prim.Native.Nat.{ℕ, zero, suc, ◌<◌, ◌≤◌, ◌-◌, ◌%◌}
 use mathlib.Core.Path.{◌≡◌, refl, ap, ◌∙◌}
-use mathlib.Core.Bool.{Bool, true, false}
+use mathlib.Core.Bool.{true, false}
 use mathlib.Core.List.{List}
 use native.Mathlib.Omega.{arith}
 use lib.Dec.{eqb}
 use Rattle.words.specs.declared.got.Got.{Got}
-use Rattle.words.specs.declared.got.Got.TheVariants.{Past, Refused}
-use Rattle.grammar.specs.Twins.Positions.{on_past, seq_p, pick_p, tree_p, term_p}
+use Rattle.words.specs.declared.got.Got.TheVariants.{Past}
+use Rattle.grammar.specs.Twins.Positions.{on_past, seq_p, pick_p, term_p}
 use Rattle.grammar.specs.Twins.Stored.{mark_at, wrong_at, the_in_at, one_of_at, leaf_at, tree_at, trees_at, args_at, test_at, condition_at, call_at, conditional_at, pair_at, term_at}
 use Rattle.grammar.proofs.StoredReaders.{on_seq}
 

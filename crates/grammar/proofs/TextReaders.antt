@@ -1,14 +1,14 @@
 -- One step of the readers of definitions, programs and jobs over stored tokens.
 use Prim.Native.Nat.{ℕ, zero, suc, ◌<◌, ◌≤◌, ◌-◌, ◌%◌}
 use mathlib.Core.Path.{◌≡◌, refl, ap, ◌∙◌}
-use mathlib.Core.Bool.{Bool, true, false}
+use mathlib.Core.Bool.{true, false}
 use mathlib.Core.List.{List}
 use native.Mathlib.Omega.{arith}
 use lib.Dec.{eqb}
 use Rattle.language.specs.Tokens.{tag}
 use Rattle.words.specs.declared.got.Got.{Got}
-use Rattle.words.specs.declared.got.Got.TheVariants.{Past, Refused}
-use Rattle.grammar.specs.Twins.Positions.{on_past, seq_p, pick_p, tree_p, parameters_p, definition_p, definitions_p, program_p, job_p}
+use Rattle.words.specs.declared.got.Got.TheVariants.{Past}
+use Rattle.grammar.specs.Twins.Positions.{on_past, seq_p, pick_p, parameters_p, definition_p, definitions_p, program_p, job_p}
 use Rattle.words.specs.Twins.Marks.{kind_at, kind_tag}
 use Rattle.grammar.specs.Twins.Stored.{mark_at, wrong_at, the_in_at, one_of_at, tree_at, trees_at, term_at, parameter_at, parameters_at, definition_at, definitions_at, program_at, sides_at, pairs_at, part_at, inputs_at, output_at, non_equalities_at, numeral_at, end_at, job_at}
 use Rattle.grammar.proofs.StoredReaders.{on_seq, tag_kind}

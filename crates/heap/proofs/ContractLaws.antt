@@ -1,18 +1,17 @@
 -- `contract_entry` and `contract_entries` by what their calls leave.
-use Prim.Native.Nat.{ℕ, zero, suc, ◌+◌, ◌-◌, ◌*◌, ◌%◌, ◌≤◌, ◌<◌, min}
-use mathlib.Core.Path.{◌≡◌, refl, ap, ap₂, ◌∙◌, sym as inv}
-use mathlib.Core.Bool.{true, false}
+use Prim.Native.Nat.{ℕ, suc, ◌+◌, ◌-◌, ◌%◌, ◌≤◌, ◌<◌}
+use mathlib.Core.Path.{◌≡◌, ap, ap₂, ◌∙◌, sym as inv}
 use mathlib.Core.List.{List}
 use native.Mathlib.Omega.{arith}
 use lib.ListN.{get_or}
 use borrow.Author.Tests.{eq-eqb, ne_eqb}
-use Rattle.sets.specs.Twins.Fill.{FillAnswer, fill_answer}
+use Rattle.sets.specs.Twins.Fill.{fill_answer}
 use Rattle.sets.specs.declared.fill.Filled.{Filled}
 use Rattle.sets.specs.declared.fill.Filled.TheVariants.{Done, Over}
-use Rattle.runs.specs.Twins.Runs.{ReplaceAnswer, replace_answer, replaced}
+use Rattle.runs.specs.Twins.Runs.{replace_answer, replaced}
 use Rattle.codes.specs.declared.outcome.Replaced.{Replaced}
 use Rattle.heap.specs.Twins.Entries.{entry_known, entry_from, entry_to}
-use Rattle.heap.specs.Twins.Contracted.{Stores, stores, entered_frame, leaf_entered, onward_from, contracted_entry, contracted_from}
+use Rattle.heap.specs.Twins.Contracted.{stores, entered_frame, leaf_entered, onward_from, contracted_entry, contracted_from}
 
 module _ (i x vfrom vto used : ℕ) (h f : List ℕ) where
   pub entry_closed : entry_known f i % 2 ≡ 1 → stores (Done used) h f ≡ contracted_entry i x vfrom vto used h f

@@ -1,8 +1,8 @@
 -- What the first cell of an entry says of its tree.
-use Prim.Native.Nat.{ℕ, zero, suc, ◌+◌, ◌*◌, ◌/◌, ◌%◌, ◌≤◌, ◌<◌}
-use mathlib.Core.Path.{◌≡◌, refl, ap, ap₂, subst, ◌∙◌, sym as inv}
+use Prim.Native.Nat.{ℕ, ◌+◌, ◌*◌, ◌/◌, ◌%◌, ◌<◌}
+use mathlib.Core.Path.{◌≡◌, refl, ap, ◌∙◌, sym as inv}
 use mathlib.Core.Bool.{Bool, true, false, cond}
-use mathlib.Core.List.{List, [], ◌∷◌}
+use mathlib.Core.List.{List}
 use native.Mathlib.Omega.{arith}
 use lib.Dec.{eqb}
 use lib.ListN.{length}
@@ -11,7 +11,6 @@ use Rattle.expressions.specs.Expression.{Exp, atm, evar, pair, nodes}
 use Rattle.expressions.specs.Substitution.{Substitution, apply}
 use Rattle.sets.specs.Twins.Copying.{any_cell}
 use Rattle.sets.specs.Cells.{cells}
-use Rattle.sets.specs.Twins.Fill.{spread}
 use Rattle.sets.proofs.CellLaws.{cells_nodes, cells_injective}
 use Rattle.runs.specs.Twins.Runs.{any_variable, spread_size}
 use Rattle.runs.proofs.RunLaws.{size_is, size_one}

@@ -1,12 +1,11 @@
 -- The nodes of entries: the loop that counts them, and what they are where the entries hold trees.
-use Prim.Native.Nat.{ℕ, zero, suc, ◌+◌, ◌-◌, ◌*◌, ◌≤◌, ◌<◌}
+use Prim.Native.Nat.{ℕ, suc, ◌+◌, ◌-◌, ◌*◌, ◌≤◌, ◌<◌}
 use mathlib.Core.Path.{◌≡◌, refl, ap, ap₂, ◌∙◌, sym as inv}
-use mathlib.Core.List.{List, [], ◌∷◌}
+use mathlib.Core.List.{List, ◌∷◌}
 use native.Mathlib.Omega.{arith}
 use native.Mathlib.Decide.{dec_le}
 use lib.ListN.{length, get_or-eq_default}
 use Rattle.expressions.specs.Expression.{Exp, nodes, nodes_all}
-use Rattle.sets.specs.Cells.{cells}
 use Rattle.sets.proofs.CellLaws.{cells_nodes}
 use Rattle.heap.specs.Twins.Entries.{entry_from, entry_to, nodes_from}
 use Rattle.runs.proofs.RunLaws.{length_cells_at}

@@ -1,15 +1,14 @@
 -- The parts of a pair that a range holds are ranges.
-use Prim.Native.Nat.{ℕ, zero, suc, ◌+◌, ◌-◌, ◌*◌, ◌≤◌, ◌<◌, min}
-use mathlib.Core.Path.{◌≡◌, refl, ap, ap₂, ◌∙◌, sym as inv}
-use mathlib.Core.List.{List, [], ◌∷◌, ◌++◌, append_assoc}
+use Prim.Native.Nat.{ℕ, suc, ◌+◌, ◌-◌, ◌≤◌}
+use mathlib.Core.Path.{◌≡◌, ap, ◌∙◌, sym as inv}
+use mathlib.Core.List.{List, ◌∷◌, ◌++◌, append_assoc}
 use native.Mathlib.Omega.{arith}
-use native.Mathlib.Numerals.{add-one}
-use lib.ListN.{length, take, drop, get_or, length-append}
-use lib.Seq.{drop-cons, take_at, drop_at}
+use lib.ListN.{length, take, drop}
+use lib.Seq.{take_at, drop_at}
 use Rattle.expressions.specs.Expression.{Exp, pair, nodes}
 use Rattle.sets.specs.Twins.Copying.{tree_end}
 use Rattle.sets.specs.Cells.{cells}
-use Rattle.sets.proofs.CellLaws.{Stands, stands_end, cells_nodes}
+use Rattle.sets.proofs.CellLaws.{stands_end, cells_nodes}
 use Rattle.runs.specs.Twins.Runs.{cells_at, run}
 use Rattle.runs.proofs.RunLaws.{run_cons, length_cells_at, run_drop, cells_split}
 use Rattle.heap.proofs.HeapLaws.{Holds}

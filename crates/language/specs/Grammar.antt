@@ -1,5 +1,5 @@
 -- The grammar of programs and jobs, over tokens. `room` is how many more brackets may stand open: "64 brackets open together".
-use Rattle.std.specs.Prelude.{ℕ, zero, suc, Bool, true, false, List, [], ◌∷◌}
+use Rattle.std.specs.Prelude.{ℕ, zero, suc, Bool, List, [], ◌∷◌}
 use Prim.Native.String.{String}
 use Rattle.language.specs.Program.{pe, pa}
 use Rattle.language.specs.Tokens.{Kind, symbol, ename, aname, evariable, avariable, plain, Token}

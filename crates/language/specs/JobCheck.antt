@@ -1,7 +1,7 @@
 -- The check of a job: 10, 11, 12, in this order.
-use Rattle.std.specs.Prelude.{ℕ, zero, suc, Bool, true, false, cond, ◌&&◌, ◌||◌, List, [], ◌∷◌, eqb, leb, length}
-use Rattle.std.proofs.Math.Option.{Option, none, some}
-use Rattle.expressions.specs.Expression.{AtomicExp, sym, avar, Exp, atm, evar, pair}
+use Rattle.std.specs.Prelude.{ℕ, Bool, true, false, ◌||◌, List, [], ◌∷◌, eqb, leb, length}
+use Rattle.std.proofs.Math.Option.{none}
+use Rattle.expressions.specs.Expression.{sym, avar, Exp, atm, evar, pair}
 use Rattle.language.specs.Program.{Param, pe, pa}
 use Rattle.language.specs.Scope.{is_atomic}
 use Rattle.language.specs.Bytes.{Verdict, fault, unless, ◌or_else◌}

@@ -1,5 +1,5 @@
 -- Programs (001, figure 3; 01, "Texts").
-use Rattle.std.specs.Prelude.{ℕ, Bool, true, false, List, [], eqb, get_or}
+use Rattle.std.specs.Prelude.{ℕ, Bool, false, List, [], eqb, get_or}
 use Rattle.expressions.specs.Expression.{AtomicExp, sym, Exp, atm, evar, pair}
 
 -- "k: `(eqa? ea ea)` or `(cons? e xe xe xa)`"

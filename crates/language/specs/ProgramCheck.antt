@@ -1,7 +1,7 @@
 -- The check of a program: 6; then 13; then 7, 8, 9. Each check asks what it asks in the order in which it stands in the text, so
 -- that the first fault found is the earliest; at one offset the lowest number is asked first.
-use Rattle.std.specs.Prelude.{ℕ, zero, suc, Bool, true, false, cond, ◌&&◌, not, List, [], ◌∷◌, eqb, ltb, length}
-use Rattle.std.proofs.Math.Option.{Option, none, some}
+use Rattle.std.specs.Prelude.{ℕ, ◌&&◌, not, List, [], ◌∷◌, eqb, ltb, length}
+use Rattle.std.proofs.Math.Option.{none}
 use Rattle.language.specs.Program.{Param, pe, pa, Prog, find}
 use Rattle.language.specs.Scope.{Scope, is_in, is_atomic, with_a, pair_scope, scope_of}
 use Rattle.language.specs.WellFormed.{has_param}

@@ -1,7 +1,7 @@
 -- Readers of token lists: each takes tokens from the front, or refuses at the first that does not fit.
 use Rattle.std.specs.Prelude.{ℕ, zero, suc, Bool, true, false, cond, List, [], ◌∷◌, eqb, length}
 use Prim.Native.String.{String}
-use Rattle.std.proofs.Math.Option.{Option, none, some}
+use Rattle.std.proofs.Math.Option.{none, some}
 use Rattle.language.specs.Bytes.{txt, Refusal, Verdict}
 use Rattle.language.specs.Words.{Fit, fits, broken, long, many}
 use Rattle.language.specs.Tokens.{Kind, same_kind, Token, key_of}

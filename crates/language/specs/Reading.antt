@@ -1,14 +1,13 @@
 -- Reading and checking the two texts, from their bytes (01, "From the input").
-use Rattle.std.specs.Prelude.{ℕ, zero, suc, ◌≡◌, List, [], ◌∷◌, map, drop}
-use Rattle.language.specs.Program.{Param}
+use Rattle.std.specs.Prelude.{ℕ, List, [], map, drop}
 use Rattle.language.specs.Bytes.{Refusal, Verdict, bytes_verdict}
 use Rattle.language.specs.Words.{Word}
 use Rattle.language.specs.Tokens.{Text, of_program, of_job, tokens, symbols_of}
 use Rattle.language.specs.Reader.{Res, ok, refused, and_then, unless_fault, Reader}
-use Rattle.language.specs.Source.{SDef, SProg, SJob, params}
+use Rattle.language.specs.Source.{SProg, SJob, params}
 use Rattle.language.specs.Grammar.{program, job_text}
 use Rattle.language.specs.ProgramCheck.{program_verdict}
-use Rattle.language.specs.JobCheck.{Tool, lister, runner, job_verdict}
+use Rattle.language.specs.JobCheck.{Tool, job_verdict}
 
 -- "Each: 1; 2; then 3, 4, 5 at the earliest token", then the check
 abbrev pub read_text : {A : Type 0} → Text → ℕ → Reader A → (A → Verdict) → List Word → List ℕ → Res A

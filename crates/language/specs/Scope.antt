@@ -1,5 +1,5 @@
 -- Names in reach (01, "Texts": "The true branch of `cons?` has its two xe, the false branch its xa, neither the other's").
-use Rattle.std.specs.Prelude.{ℕ, Bool, true, false, cond, ◌&&◌, ◌||◌, List, [], ◌∷◌, eqb}
+use Rattle.std.specs.Prelude.{ℕ, Bool, true, false, ◌&&◌, ◌||◌, List, [], ◌∷◌, eqb}
 use Rattle.expressions.specs.Expression.{AtomicExp, sym, avar, Exp, atm, evar, pair}
 use Rattle.language.specs.Program.{Param, pe, pa}
 

@@ -1,9 +1,9 @@
 -- What the readers make of the texts: figure 3's syntax with the offsets that a refusal may name, and what it is without them.
-use Rattle.std.specs.Prelude.{ℕ, zero, suc, cond, List, [], ◌∷◌, map, eqb}
-use Rattle.expressions.specs.Expression.{AtomicExp, sym, avar, Exp, atm, evar, pair}
+use Rattle.std.specs.Prelude.{ℕ, suc, cond, List, [], ◌∷◌, map, eqb}
+use Rattle.expressions.specs.Expression.{sym, avar, Exp, atm, evar, pair}
 use Rattle.expressions.specs.Restriction.{NonEquality}
 use Rattle.expressions.specs.Class.{IOClass}
-use Rattle.language.specs.Program.{Condition, eqa, consp, Term, call, conditional, result, Param, pe, pa, Def, Prog, atom_of}
+use Rattle.language.specs.Program.{Condition, eqa, consp, Term, call, conditional, result, Param, Prog, atom_of}
 
 -- a number (of a name, or a numeral's value) and the offset where it stands
 pub record Stand : Type 0 where

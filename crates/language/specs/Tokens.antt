@@ -1,5 +1,5 @@
 -- Tokens: a text cut into words and brackets; of each its kind, how it fits, its number, its offset.
-use Rattle.std.specs.Prelude.{ℕ, zero, suc, ◌+◌, Bool, true, false, cond, ◌&&◌, ◌||◌, not, List, [], ◌∷◌, ◌++◌, eqb, leb, ltb, length, drop}
+use Rattle.std.specs.Prelude.{ℕ, suc, Bool, true, false, cond, ◌&&◌, ◌||◌, not, List, [], ◌∷◌, ◌++◌, eqb, leb, ltb, length, drop}
 use Prim.Native.String.{String}
 use Rattle.language.specs.Bytes.{txt, byte_kind, is_blank, in_word}
 use Rattle.language.specs.Words.{Word, same, begins, Fit, fits, broken, long, many, name_fit, numeral_fit, number_fit, value}

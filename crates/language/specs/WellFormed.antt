@@ -1,7 +1,7 @@
 -- Well-formed programs (001, section 3.1), which is what 6 to 9 leave; those that bind no name in reach (02, request 1), which 13 leaves of them; inputs that fit main (001, definition 40), which is what 10 leaves.
-use Rattle.std.specs.Prelude.{ℕ, zero, suc, Bool, true, false, ◌&&◌, ◌||◌, not, List, [], ◌∷◌, eqb, ltb, length}
+use Rattle.std.specs.Prelude.{Bool, true, false, ◌&&◌, ◌||◌, not, List, [], ◌∷◌, eqb, ltb, length}
 use Rattle.expressions.specs.Expression.{Exp}
-use Rattle.language.specs.Program.{Condition, eqa, consp, Term, call, conditional, result, Param, pe, pa, same_param, Def, Prog, find}
+use Rattle.language.specs.Program.{eqa, consp, Term, call, conditional, result, Param, pe, pa, same_param, Def, Prog, find}
 use Rattle.language.specs.Scope.{Scope, is_in, scope_of, with_a, pair_scope, in_scope, all_in_scope, is_atomic, atomic_in_scope}
 
 -- "that the types of arguments and parameters are compatible": as many, and atomic ones for `a.` parameters

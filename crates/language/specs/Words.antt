@@ -1,5 +1,5 @@
 -- Words: lists of bytes, compared, and judged as names, numerals and variable numbers.
-use Rattle.std.specs.Prelude.{ℕ, zero, suc, ◌+◌, ◌*◌, ◌-◌, Bool, true, false, cond, ◌&&◌, ◌||◌, not, List, [], ◌∷◌, eqb, leb, length, drop}
+use Rattle.std.specs.Prelude.{ℕ, ◌+◌, ◌*◌, ◌-◌, Bool, true, false, cond, ◌&&◌, ◌||◌, not, List, [], ◌∷◌, eqb, leb, length}
 use Rattle.language.specs.Bytes.{byte_kind, is_digit, in_name, within}
 
 abbrev pub Word : Type 0

@@ -1,9 +1,9 @@
 -- Cutting a text keeps the lengths of its storages.
 use Prim.Native.Nat.{ℕ, zero, suc}
-use mathlib.Core.Path.{◌≡◌, refl, ap, ◌∙◌}
+use mathlib.Core.Path.{◌≡◌, refl, ◌∙◌}
 use mathlib.Core.Bool.{Bool, true, false}
 use mathlib.Core.List.{List}
-use lib.ListN.{length, set, length-set}
+use lib.ListN.{length, length-set}
 use Rattle.lexer.specs.Twins.Lexed.{State, stored, passed, on_shut, step_from, cut_from, token_from, shifted}
 use Rattle.lexer.specs.declared.lexer.Token.{Token}
 use Rattle.lexer.proofs.LexedLaws.{length_entered}

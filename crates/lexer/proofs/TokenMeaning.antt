@@ -1,20 +1,20 @@
 -- The cells that the code makes of a word are those of its token.
-use Prim.Native.Nat.{ℕ, zero, suc, ◌+◌, ◌*◌, ◌%◌, ◌≤◌, ◌<◌}
+use Prim.Native.Nat.{ℕ, suc, ◌+◌, ◌*◌, ◌≤◌, ◌<◌}
 use Prim.Native.String.{String}
-use mathlib.Core.Path.{◌≡◌, refl, ap, ap₂, ◌∙◌, sym}
+use mathlib.Core.Path.{◌≡◌, refl, ap, ◌∙◌, sym}
 use mathlib.Core.Bool.{Bool, true, false, cond, ◌&&◌, ◌||◌, not}
-use mathlib.Core.List.{List, [], ◌∷◌, ◌++◌}
+use mathlib.Core.List.{List, [], ◌∷◌}
 use native.Mathlib.Omega.{arith}
 use native.Mathlib.Nat.{mod-eq_of_lt}
 use lib.Dec.{eqb, leb, ltb}
-use borrow.Author.Tests.{eq-eqb, ne_eqb, lt-ltb, le-ltb, ltb-true, ltb-false}
-use lib.ListN.{length, drop}
+use borrow.Author.Tests.{eq-eqb, ne_eqb, ltb-true, ltb-false}
+use lib.ListN.{length}
 use Rattle.language.specs.Bytes.{txt}
-use Rattle.language.specs.Words.{Word, same, Fit, fits, broken, long, many, value}
-use Rattle.language.specs.Tokens.{Kind, symbol, ename, aname, evariable, avariable, plain, tag, same_kind, kind_of, key_in, key_of, fixed_words, Text, of_program, of_job, fit_of, place, is_among, num_of, fitting, Piece, token, Token}
-use Rattle.words.specs.Twins.Marks.{fit_number, over_number, mark_of, cell_of, kind_at}
-use Rattle.words.specs.Twins.Judged.{value_cell, text_of}
-use Rattle.lexer.specs.Twins.Lexed.{mark_sum, mark_cell, plain_number, number_at, over_at, shut_at, shuts}
+use Rattle.language.specs.Words.{Word, same, Fit, fits, broken, long, many}
+use Rattle.language.specs.Tokens.{Kind, symbol, ename, aname, evariable, avariable, plain, tag, same_kind, key_in, key_of, fixed_words, place, is_among, num_of, fitting}
+use Rattle.words.specs.Twins.Marks.{fit_number, over_number, cell_of}
+use Rattle.words.specs.Twins.Judged.{text_of}
+use Rattle.lexer.specs.Twins.Lexed.{mark_cell, plain_number, number_at, over_at}
 use Rattle.words.proofs.Encoding.{tag_most, fit_most}
 
 -- a place is at most the number of words

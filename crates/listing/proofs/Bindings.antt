@@ -1,6 +1,5 @@
 -- The printed bindings of a line are its substitution on the job's variables, in order of first standing.
-use Prim.Native.Nat.{ℕ}
-use mathlib.Core.Path.{◌≡◌, refl, ap, ap₂, ◌∙◌}
+use mathlib.Core.Path.{◌≡◌, refl, ap, ◌∙◌}
 use mathlib.Core.Bool.{Bool, true, false, cond, ◌||◌}
 use mathlib.Core.List.{List, [], ◌∷◌, ◌++◌, map}
 use Rattle.expressions.specs.Expression.{sym, avar, Exp, atm, evar, pair}

@@ -1,8 +1,8 @@
 -- A line has at most 4,096 nodes: "21 over 4,096 nodes: .. at the start of an intersection or after a binding".
-use Prim.Native.Nat.{ℕ, zero, suc, ◌+◌, ◌≤◌}
-use mathlib.Core.Path.{◌≡◌, refl, subst}
+use Prim.Native.Nat.{ℕ, zero, suc, ◌≤◌}
+use mathlib.Core.Path.{◌≡◌, refl}
 use mathlib.Core.Bool.{Bool, true, false}
-use mathlib.Core.List.{List, [], ◌∷◌, ◌++◌}
+use mathlib.Core.List.{List, [], ◌∷◌}
 use mathlib.Core.Option.{Option, none, some}
 use native.Mathlib.Omega.{arith}
 use borrow.Author.Tests.{ltb-false}
@@ -13,8 +13,8 @@ use Rattle.language.specs.Program.{Prog}
 use Rattle.semantics.specs.Lists.{All}
 use Rattle.semantics.specs.Configuration.{Configuration, start}
 use Rattle.semantics.specs.Trace.{Successors, terminal, called, branches, successors}
-use Rattle.semantics.specs.Tree.{Node, root, after_call, after_decision, Line, meeting_at}
-use Rattle.semantics.specs.Walk.{node_limit, meeting_over, state_over, Limits, Stop, stop21, stop22, stop23, Untaken, WalkState, Walked, going, stopped, at_start, table_full, with_line, at_end, push, push_branch, mark_cut, expand, expand_unless, visit, and_then, taken, take_next, spent, walk, walk_from, resolve, lines_of}
+use Rattle.semantics.specs.Tree.{Node, root, Line, meeting_at}
+use Rattle.semantics.specs.Walk.{meeting_over, state_over, Limits, Untaken, WalkState, Walked, going, stopped, at_start, table_full, with_line, at_end, expand, expand_unless, visit, and_then, taken, take_next, spent, walk, walk_from, resolve, lines_of}
 use Rattle.semantics.proofs.Lists.{all_append}
 
 abbrev pub Small : Line → Type 0

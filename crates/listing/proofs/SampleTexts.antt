@@ -18,9 +18,9 @@ use Rattle.expressions.proofs.Numbers.{ExpNumbers, ClassNumbers}
 use Rattle.language.specs.Program.{eqa, consp, Term, call, conditional, result, Param, pe, pa, Prog, find}
 use Rattle.language.specs.Bytes.{txt}
 use Rattle.language.specs.Words.{Word}
-use Rattle.language.specs.Tokens.{Piece, cut, place, is_among, is_symbol, of_job, symbols_of, names_of}
+use Rattle.language.specs.Tokens.{Piece, cut, place, is_among, is_symbol, symbols_of, names_of}
 use Rattle.language.specs.Reader.{Res, ok, refused}
-use Rattle.language.specs.Source.{SExp, SProg, SJob, exps, params, prog, class}
+use Rattle.language.specs.Source.{SExp, SProg, SJob, exps, prog, class}
 use Rattle.language.specs.JobCheck.{lister, runner}
 use Rattle.language.specs.Reading.{read_job, accepted, with_job, with_program, reading, symbol_names}
 use Rattle.language.proofs.Acceptance.{accepted_passed}

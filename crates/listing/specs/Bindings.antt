@@ -1,6 +1,6 @@
 -- What the job's variables are bound to in a line: "for each job variable that was bound, in order of first standing in the job".
-use Rattle.std.specs.Prelude.{ℕ, Bool, true, false, cond, ◌&&◌, ◌||◌, List, [], ◌∷◌, ◌++◌, eqb}
-use Rattle.expressions.specs.Expression.{AtomicExp, sym, avar, Exp, atm, evar, pair}
+use Rattle.std.specs.Prelude.{Bool, false, cond, ◌&&◌, ◌||◌, List, [], ◌∷◌, ◌++◌, eqb}
+use Rattle.expressions.specs.Expression.{sym, avar, Exp, atm, evar, pair}
 use Rattle.expressions.specs.Restriction.{same_atomic}
 use Rattle.expressions.specs.Class.{IOPair}
 

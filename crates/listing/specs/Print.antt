@@ -1,12 +1,12 @@
 -- The printed text of a listing (01, "Printing, and cases").
-use Rattle.std.specs.Prelude.{ℕ, zero, suc, ◌+◌, ◌/◌, ◌%◌, Bool, true, false, cond, List, [], ◌∷◌, ◌++◌, ltb, length, get_or}
+use Rattle.std.specs.Prelude.{ℕ, zero, suc, ◌+◌, ◌/◌, ◌%◌, true, false, cond, List, [], ◌∷◌, ◌++◌, ltb, length, get_or}
 use Rattle.expressions.specs.Expression.{Value, atom, cons, AtomicExp, sym, avar, Exp, atm, evar, pair}
-use Rattle.expressions.specs.Restriction.{NonEquality, Restriction}
+use Rattle.expressions.specs.Restriction.{Restriction}
 use Rattle.expressions.specs.Class.{IOPair, GroundPair}
 use Rattle.language.specs.Bytes.{txt}
 use Rattle.language.specs.Words.{Word}
 use Rattle.semantics.specs.Tree.{Line}
-use Rattle.semantics.specs.Walk.{Stop, stop21, stop22, stop23, Word as EndingWord, whole, cut, stop, Walked, word_of, lines_of, count_of}
+use Rattle.semantics.specs.Walk.{stop21, stop22, stop23, Word as EndingWord, whole, cut, stop, Walked, word_of, lines_of, count_of}
 use Rattle.listing.specs.Bindings.{Binding, same, bindings}
 
 -- a number in base ten; it has no more digits than it counts and one

@@ -1,11 +1,11 @@
 -- What the tools print, from the bytes of the two texts to the bytes of the answer.
 use Rattle.std.specs.Prelude.{ℕ, List, [], ◌∷◌, ◌++◌}
-use Rattle.language.specs.Bytes.{txt, Refusal}
+use Rattle.language.specs.Bytes.{txt}
 use Rattle.language.specs.Words.{Word}
 use Rattle.language.specs.Tokens.{Text, of_program, of_job, symbols_of}
 use Rattle.language.specs.Reading.{symbol_names}
 use Rattle.semantics.specs.Runner.{Ran, value, ran_over, not_within}
-use Rattle.semantics.specs.Answer.{Answer, answered, refused, Listed, list, run}
+use Rattle.semantics.specs.Answer.{Answer, answered, refused, list, run}
 use Rattle.listing.specs.Print.{digits, print_value, print_listing}
 use Rattle.listing.specs.Sample.{print_sampled_listing}
 

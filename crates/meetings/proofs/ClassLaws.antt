@@ -47,13 +47,13 @@ apply_length s [] = refl
 apply_length s (c ∷ cs) = ap suc (apply_length s cs)
 
 -- an entry among those that hold
-pub held_at : {h : List ℕ} {used : ℕ} {f : List ℕ} {i : ℕ} (bs : List Exp) (t : Exp) (ts : List Exp) (j : ℕ) → j ≡ i + length bs → Held h used f i (bs ++ (t ∷ ts)) → Holds h used (entry_from f j) (entry_to f j) t
-held_at {f = f} {i = i} [] t ts j e (more x k r) = let z : j ≡ i = omega arith in rw z x
+pub held_at : {h : List ℕ} {used : ℕ} {f : List ℕ} (bs : List Exp) (t : Exp) (ts : List Exp) (j : ℕ) {i : ℕ} → j ≡ i + length bs → Held h used f i (bs ++ (t ∷ ts)) → Holds h used (entry_from f j) (entry_to f j) t
+held_at {f = f} [] t ts j {i = i} e (more x k r) = let z : j ≡ i = omega arith in rw z x
 held_at (b ∷ bs) t ts j e (more x k r) = held_at bs t ts j (omega arith) r
 
 -- entries that hold trees are in the frame, since a tree has a cell
-pub held_room : {h : List ℕ} {used : ℕ} {f : List ℕ} {i : ℕ} (t : Exp) (ts : List Exp) → Held h used f i (t ∷ ts) → 3 * (i + suc (length ts)) ≤ length f
-held_room {f = f} {i = i} t [] (more x k r) = pick (dec_le (3 * i + 3) (length f))
+pub held_room : {h : List ℕ} {used : ℕ} {f : List ℕ} (t : Exp) (ts : List Exp) {i : ℕ} → Held h used f i (t ∷ ts) → 3 * (i + suc (length ts)) ≤ length f
+held_room {f = f} t [] {i = i} (more x k r) = pick (dec_le (3 * i + 3) (length f))
   where
     pick : Dec (3 * i + 3 ≤ length f) → 3 * (i + 1) ≤ length f
     pick (yes l) = omega arith

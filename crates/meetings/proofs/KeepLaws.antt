@@ -5,7 +5,7 @@ use mathlib.Core.Bool.{Bool, true, false, cond}
 use mathlib.Core.List.{List}
 use native.Mathlib.Omega.{arith}
 use lib.Dec.{eqb, leb, ltb}
-use lib.ListN.{length, get_or, set, length-set}
+use lib.ListN.{length, get_or, length-set}
 use lib.Seq.{sets, length-sets}
 use Rattle.sets.specs.Twins.Fill.{fill_answer}
 use Rattle.sets.specs.declared.fill.Filled.{Filled}

@@ -107,7 +107,7 @@ cells_append : (cs ds : List Exp) → cells_all (cs ++ ds) ≡ cells_all cs ++ c
 cells_append [] ds = refl
 cells_append (c ∷ cs) ds = ap (λ (l : List ℕ). cells c ++ l) (cells_append cs ds) ∙ inv (append_assoc (cells c) (cells_all cs) (cells_all ds))
 
-held_prefix : {h : List ℕ} {used : ℕ} {f : List ℕ} {i : ℕ} (cs ds : List Exp) → Held h used f i (cs ++ ds) → Held h used f i cs
+held_prefix : {h : List ℕ} {used : ℕ} {f : List ℕ} (cs ds : List Exp) {i : ℕ} → Held h used f i (cs ++ ds) → Held h used f i cs
 held_prefix [] ds x = none
 held_prefix (c ∷ cs) ds (more x k y) = more x k (held_prefix cs ds y)
 

@@ -16,7 +16,7 @@ use Rattle.expressions.specs.Intersection.{meeting, disagreement, Intersected, c
 use Rattle.expressions.proofs.Combination.{simplify_idempotent}
 use Rattle.expressions.proofs.Unification.{bound}
 use Rattle.expressions.proofs.Disagreement.{IsIdentity, disagreement_identity}
-use Rattle.sets.specs.Cells.{evar_code, avar_code, atomic_code, cells}
+use Rattle.sets.specs.Cells.{evar_code, avar_code, atomic_code}
 use Rattle.restrictions.specs.Twins.Restricting.{RestrictAnswer, bind_cells}
 use Rattle.sets.proofs.ContractionLaws.{code_tag}
 use Rattle.restrictions.proofs.RestrictionLaws.{Answers, bind_cells_means}

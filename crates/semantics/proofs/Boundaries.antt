@@ -7,7 +7,7 @@ use mathlib.Core.List.{List, [], ◌∷◌, map}
 use mathlib.Core.Option.{Option, none, some}
 use lib.ListN.{length}
 use Rattle.language.specs.Bytes.{txt}
-use Rattle.semantics.specs.Walk.{Word, whole, cut, stop, stop21, stop22, stop23, word_of, lines_of, count_of}
+use Rattle.semantics.specs.Walk.{Word, whole, stop, stop21, stop22, word_of, lines_of, count_of}
 use Rattle.semantics.specs.Answer.{Answer, answered, refused, Listed, list}
 
 -- a program, a job, and the word, the number of lines and the transitions of their listing

@@ -1,7 +1,7 @@
 -- The lines of a tree hold exactly what evaluates to the wanted output, each in one line; an unfinished node is an input that runs longer.
-use Prim.Native.Nat.{ℕ, zero, suc, ◌+◌, ◌<◌, ◌≤◌}
-use mathlib.Core.Path.{◌≡◌, refl, ap, ap₂, subst, subst₂, ◌∙◌, sym as inv}
-use mathlib.Core.Bool.{Bool, true, false, cond, ◌||◌, true≢false, false≢true}
+use Prim.Native.Nat.{ℕ, zero, suc, ◌+◌}
+use mathlib.Core.Path.{◌≡◌, refl, ap, subst, subst₂, ◌∙◌, sym as inv}
+use mathlib.Core.Bool.{Bool, true, false, ◌||◌, true≢false, false≢true}
 use mathlib.Core.List.{List, [], ◌∷◌, ◌++◌, append_assoc}
 use mathlib.Core.Option.{Option, none, some, none-ne-some, some-ne-none, some-injective}
 use mathlib.Core.Logic.{◌⊎◌, inl, inr}
@@ -10,19 +10,18 @@ use Rattle.expressions.specs.Expression.{Value, Exp}
 use Rattle.expressions.specs.Substitution.{GroundSubst, ground_exp}
 use Rattle.expressions.specs.Restriction.{Satisfies}
 use Rattle.expressions.specs.Contraction.{CRPair}
-use Rattle.expressions.specs.Class.{IOPair, GroundPair, ground_io, IOClass}
-use Rattle.expressions.specs.Intersection.{Meeting, meeting, Intersected, common, disjoint, too_large, intersect, no_limit}
+use Rattle.expressions.specs.Class.{GroundPair, ground_io, IOClass}
+use Rattle.expressions.specs.Intersection.{Intersected, common, disjoint, too_large, intersect, no_limit}
 use Rattle.expressions.proofs.Tests.{or_either}
 use Rattle.expressions.proofs.Simplification.{Consistent, consistent_satisfiable}
-use Rattle.expressions.proofs.Unification.{Unified, intersect_unified, intersect_sound, intersect_complete}
+use Rattle.expressions.proofs.Unification.{intersect_unified, intersect_sound, intersect_complete}
 use Rattle.language.specs.Program.{Term, Prog}
 use Rattle.semantics.specs.Lists.{All, Any, AllPairs}
-use Rattle.semantics.specs.Environment.{Env}
 use Rattle.semantics.specs.Figure4.{ValueEnv}
 use Rattle.semantics.specs.Evaluate.{Next, end, go, step, add_step, eval_from}
-use Rattle.semantics.specs.Configuration.{ground_env, State, state, Configuration}
-use Rattle.semantics.specs.Trace.{Successors, terminal, called, branches, successors_of, successors}
-use Rattle.semantics.specs.Tree.{Node, after_call, after_decision, Tree, absent, end as end_node, unfinished, call as call_node, decision, branch, tree_from, tree, Leaf, leaves, unfinished_nodes, Line, meeting_at, line_of, leaf_lines, leaves_lines, any_of}
+use Rattle.semantics.specs.Configuration.{ground_env, state, Configuration}
+use Rattle.semantics.specs.Trace.{Successors, terminal, called, branches, successors}
+use Rattle.semantics.specs.Tree.{Node, after_call, after_decision, Tree, branch, tree_from, Leaf, leaves, unfinished_nodes, Line, meeting_at, line_of, leaf_lines, leaves_lines, any_of}
 use Rattle.semantics.proofs.Lists.{all_append, all_map, any_left, any_right, any_map, pairs_append}
 use Rattle.semantics.proofs.Evaluation.{add_step_some}
 use Rattle.semantics.proofs.TransitionCorrectness.{side, Invariant, TransitionSound, TransitionComplete, BranchSound, HasSuccessor, TransitionCorrect, transition_correct}

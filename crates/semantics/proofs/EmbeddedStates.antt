@@ -5,7 +5,7 @@ use mathlib.Core.Option.{none, some}
 use Rattle.expressions.specs.Expression.{Value, sym}
 use Rattle.expressions.specs.Class.{IOPair}
 use Rattle.language.specs.Program.{Term}
-use Rattle.semantics.specs.Environment.{Env, map_values}
+use Rattle.semantics.specs.Environment.{map_values}
 use Rattle.semantics.specs.Figure4.{ValueEnv}
 use Rattle.semantics.specs.Evaluate.{Next, end, go}
 use Rattle.semantics.specs.Configuration.{ExpEnv, Configuration}

@@ -7,17 +7,17 @@ use mathlib.Core.Option.{Option, none, some}
 use lib.Dec.{eqb}
 use Rattle.expressions.specs.Expression.{Value, atom, cons, AtomicExp, sym, avar, Exp, atm, evar, pair}
 use Rattle.expressions.specs.Substitution.{GroundSubst, ground_exp, ground_atomic, Substitution, apply, apply_atomic}
-use Rattle.expressions.specs.Contraction.{CRPair, contra, contract}
+use Rattle.expressions.specs.Contraction.{CRPair}
 use Rattle.expressions.specs.Class.{IOPair}
 use Rattle.expressions.specs.Split.{split_atomic}
-use Rattle.language.specs.Program.{Condition, eqa, consp, Term, call, conditional, result, Param, pe, pa, Prog, find, atom_of}
-use Rattle.semantics.specs.Environment.{Env, lookup, map_values, update, update_e, update_a, bind_params}
+use Rattle.language.specs.Program.{eqa, consp, Term, call, conditional, result, Param, pe, pa, Prog, find, atom_of}
+use Rattle.semantics.specs.Environment.{map_values, update_e, update_a, bind_params}
 use Rattle.semantics.specs.Figure4.{ValueEnv}
-use Rattle.semantics.specs.Evaluate.{ground_of, Next, end, go, step_pair, step}
-use Rattle.semantics.specs.Configuration.{ExpEnv, subst_of_env, State, state, Configuration}
-use Rattle.semantics.specs.Trace.{Successors, terminal, called, branches, configuration, trace_pair, trace_atomic, successors_of}
+use Rattle.semantics.specs.Evaluate.{ground_of, go, step_pair, step}
+use Rattle.semantics.specs.Configuration.{ExpEnv, subst_of_env, state}
+use Rattle.semantics.specs.Trace.{branches, configuration, trace_pair, trace_atomic, successors_of}
 use Rattle.semantics.specs.Embedding.{embed}
-use Rattle.semantics.proofs.EmbeddedStates.{embed_env, at_state, OneSuccessor, ends, calls, holds, fails}
+use Rattle.semantics.proofs.EmbeddedStates.{embed_env, OneSuccessor, ends, calls, holds, fails}
 use Rattle.semantics.proofs.Grounding.{lookup_map, update_map}
 use Rattle.semantics.proofs.Tracing.{contract_identity}
 

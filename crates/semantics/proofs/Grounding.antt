@@ -1,17 +1,15 @@
 -- Grounding a c-environment grounds what is looked up in it, updated and bound: a state of a configuration evaluates as the configuration is traced.
 use Prim.Native.Nat.{ℕ}
-use mathlib.Core.Path.{◌≡◌, refl, ap, ap₂, ◌∙◌, sym as inv}
+use mathlib.Core.Path.{◌≡◌, refl, ap, ◌∙◌, sym as inv}
 use mathlib.Core.Bool.{Bool, true, false, cond}
 use mathlib.Core.List.{List, [], ◌∷◌}
-use lib.Dec.{eqb}
-use Rattle.expressions.specs.Expression.{Value, atom, cons, AtomicExp, sym, avar, Exp, atm, evar, pair}
+use Rattle.expressions.specs.Expression.{AtomicExp, sym, Exp, atm}
 use Rattle.expressions.specs.Substitution.{GroundSubst, ground_exp, ground_atomic, Substitution, apply, apply_atomic, compose_ground}
 use Rattle.expressions.proofs.Filling.{ground_apply, ground_atomic_apply, ground_io_apply, ground_ext, Lawful}
 use Rattle.language.specs.Program.{Param, pe, pa, atom_of}
-use Rattle.semantics.specs.Environment.{Env, lookup, update, update_e, update_a, map_values, bind_params, add_e, add_a}
-use Rattle.semantics.specs.Figure4.{ValueEnv}
+use Rattle.semantics.specs.Environment.{lookup, update, update_e, update_a, map_values, bind_params, add_e, add_a}
 use Rattle.semantics.specs.Evaluate.{ground_of}
-use Rattle.semantics.specs.Configuration.{ExpEnv, apply_env, ground_env, subst_of_env, State, state}
+use Rattle.semantics.specs.Configuration.{ExpEnv, apply_env, ground_env, subst_of_env, state}
 
 map_values_compose : {A B C : Type 0} (f : A → B) (g : B → C) (bs : List (ℕ × A)) → map_values g (map_values f bs) ≡ map_values (λ x. g (f x)) bs
 map_values_compose f g [] = refl

@@ -2,23 +2,23 @@
 use Prim.Native.Nat.{ℕ, zero, suc, ◌+◌}
 use mathlib.Core.Path.{◌≡◌, refl, ap, subst, ◌∙◌, sym as inv}
 use mathlib.Core.Bool.{Bool, true, false}
-use mathlib.Core.List.{List, [], ◌∷◌, ◌++◌}
+use mathlib.Core.List.{List, [], ◌∷◌}
 use mathlib.Core.Option.{Option, none, some}
 use Rattle.expressions.specs.Expression.{avar, Exp, atm, evar, pair}
 use Rattle.expressions.specs.Substitution.{Substitution, compose, id_subst, apply, apply_atomic}
 use Rattle.expressions.specs.Restriction.{Restriction, simplify}
 use Rattle.expressions.specs.Contraction.{CRPair, Contraction, subst_of, contract_restriction, contract, apply_pair}
 use Rattle.expressions.specs.Class.{IOPair, apply_io, IOClass}
-use Rattle.expressions.specs.Split.{Split, take_numbers, split_exp, split_atomic}
+use Rattle.expressions.specs.Split.{take_numbers, split_exp, split_atomic}
 use Rattle.expressions.specs.Intersection.{Intersected, common, disjoint, too_large, intersect, no_limit}
 use Rattle.expressions.proofs.Filling.{apply_io_compose, apply_io_id}
 use Rattle.expressions.proofs.Unification.{intersect_unified}
-use Rattle.language.specs.Program.{Condition, eqa, consp, Term, call, conditional, result, Prog, find, atom_of}
+use Rattle.language.specs.Program.{eqa, consp, Term, call, conditional, result, Prog, atom_of}
 use Rattle.semantics.specs.Lists.{All}
-use Rattle.semantics.specs.Environment.{Env, update_e, update_a}
-use Rattle.semantics.specs.Configuration.{ExpEnv, subst_of_env, State, state, Configuration, with_env, start_with, start}
+use Rattle.semantics.specs.Environment.{update_e, update_a}
+use Rattle.semantics.specs.Configuration.{subst_of_env, state, Configuration, with_env, start_with, start}
 use Rattle.semantics.specs.Trace.{Successors, terminal, called, branches, configuration, trace_pair, successors_of, successors}
-use Rattle.semantics.specs.Tree.{Node, root, after_call, after_decision, Tree, absent, branch, tree_from, tree_of, Leaf, leaves, Line, meeting_at, line_of, leaf_lines, leaves_lines}
+use Rattle.semantics.specs.Tree.{Node, root, after_call, after_decision, Tree, branch, tree_from, tree_of, Leaf, leaves, Line, meeting_at, line_of, leaf_lines, leaves_lines}
 use Rattle.semantics.specs.Demand2.{InstanceOf}
 use Rattle.semantics.proofs.Lists.{all_append, all_map}
 

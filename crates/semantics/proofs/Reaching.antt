@@ -3,14 +3,13 @@ use Prim.Native.Nat.{ℕ, suc, ◌+◌, ◌≤◌}
 use mathlib.Core.Path.{◌≡◌, refl, ap, ◌∙◌}
 use mathlib.Core.Bool.{Bool, true, false}
 use mathlib.Core.List.{List, [], ◌∷◌, ◌++◌}
-use mathlib.Core.Option.{Option, none, some}
+use mathlib.Core.Option.{Option, some}
 use native.Mathlib.Omega.{arith}
 use lib.ListN.{length}
 use Rattle.language.specs.Program.{Prog}
 use Rattle.semantics.specs.Configuration.{Configuration}
 use Rattle.semantics.specs.Trace.{called, branches, successors}
 use Rattle.semantics.specs.Tree.{Node, after_call, after_decision}
-use Rattle.semantics.specs.Walk.{Untaken}
 use Rattle.semantics.proofs.Backtrack.{replay, replay_next}
 use Rattle.semantics.proofs.Replay.{replay_none, replay_call, replay_decision}
 

@@ -9,7 +9,7 @@ use Rattle.expressions.proofs.Numbers.{ExpNumbers}
 use Rattle.language.specs.Program.{consp, Term, conditional, Param, pe, pa, Def, Prog}
 use Rattle.language.proofs.Numbers.{TermNumbers, ParamNumbers, DefNumbers, ProgNumbers}
 use Rattle.semantics.specs.Environment.{Binds, here, there, map_values, update_e, update_a, names}
-use Rattle.semantics.specs.Figure4.{ValueEnv, AtomOf, symbol, variable, ValueOf, atomic, pairs, ArgumentsOf, done, any, one, Defines, first, later, Step, equal, unequal, is_pair, is_atom, calls, Evaluates, terminal, transition, InitialEnv, Outputs}
+use Rattle.semantics.specs.Figure4.{ValueEnv, AtomOf, ValueOf, atomic, pairs, ArgumentsOf, Defines, first, later, Step, equal, unequal, is_pair, is_atom, calls, Evaluates, terminal, transition, InitialEnv, Outputs}
 use Rattle.semantics.proofs.Grounding.{update_map}
 
 -- N holds of the numbers of names

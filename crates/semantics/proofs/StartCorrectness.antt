@@ -1,35 +1,32 @@
 -- Correctness of the start (001, theorem 43), and so of the whole tree, in terms of evaluation as a function.
-use Prim.Native.Nat.{ℕ, zero, suc, ◌+◌, ◌<◌, ◌≤◌, max}
-use mathlib.Core.Path.{◌≡◌, refl, ap, ap₂, subst, ◌∙◌, sym as inv}
-use mathlib.Core.Bool.{Bool, true, false, ◌&&◌, false≢true}
+use Prim.Native.Nat.{ℕ}
+use mathlib.Core.Path.{◌≡◌, refl, ap, ◌∙◌, sym as inv}
+use mathlib.Core.Bool.{Bool, true, false, false≢true}
 use mathlib.Core.List.{List, [], ◌∷◌}
-use mathlib.Core.Option.{Option, none, some, none-ne-some, some-injective}
-use mathlib.Core.Logic.{◌⊎◌, inl, inr, ◌↔◌}
+use mathlib.Core.Option.{Option, none, some, none-ne-some}
+use mathlib.Core.Logic.{◌↔◌}
 use native.Mathlib.Omega.{arith}
-use Rattle.expressions.specs.Expression.{Value, atom, cons, AtomicExp, Exp, atm, evar, pair}
+use Rattle.expressions.specs.Expression.{Value, Exp, atm, evar, pair}
 use Rattle.expressions.specs.Substitution.{GroundSubst, ground_exp, ground_atomic, ground_all}
 use Rattle.expressions.specs.Restriction.{Restriction, Satisfies, simplify}
-use Rattle.expressions.specs.Contraction.{CRPair, InConcretization}
+use Rattle.expressions.specs.Contraction.{CRPair}
 use Rattle.expressions.specs.Class.{GroundPair, ground_io, IOClass, InClass}
 use Rattle.expressions.specs.Split.{first_fresh}
-use Rattle.expressions.proofs.Tests.{and_both}
 use Rattle.expressions.proofs.Simplification.{Consistent, simplify_sound, simplify_complete, simplify_back, simplify_consistent, consistent_satisfiable}
-use Rattle.expressions.proofs.Contracting.{Agree, Fresh}
 use Rattle.expressions.proofs.Numbering.{class_fresh}
 use Rattle.language.specs.Program.{Param, pe, pa, Prog, find}
-use Rattle.language.specs.Scope.{is_atomic}
 use Rattle.language.specs.WellFormed.{fits}
 use Rattle.semantics.specs.Lists.{All, Any, AllPairs}
-use Rattle.semantics.specs.Environment.{Env, bind_params, add_e, add_a}
+use Rattle.semantics.specs.Environment.{bind_params, add_e, add_a}
 use Rattle.semantics.specs.Figure4.{ValueEnv}
 use Rattle.semantics.specs.Evaluate.{step, eval_from, bind_inputs, start_term, start_env, evaluate}
-use Rattle.semantics.specs.Configuration.{ground_env, State, GroundState, state, Configuration, start_with, start}
-use Rattle.semantics.specs.Trace.{successors_of, successors}
-use Rattle.semantics.specs.Tree.{root, Tree, absent, tree_from, tree, tree_of, leaves, leaves_lines, unfinished_nodes, any_of, Line}
+use Rattle.semantics.specs.Configuration.{ground_env, state, start_with, start}
+use Rattle.semantics.specs.Trace.{successors_of}
+use Rattle.semantics.specs.Tree.{root, tree_of, leaves, leaves_lines, unfinished_nodes, any_of, Line}
 use Rattle.semantics.proofs.Lists.{all_map, any_map}
 use Rattle.semantics.proofs.Grounding.{bind_params_ground}
 use Rattle.semantics.proofs.TransitionCorrectness.{Invariant, transition_correct}
-use Rattle.semantics.proofs.Coverage.{Disjoint, InputDetermines, evaluates, Origin, From, Into, Exact, tree_exact}
+use Rattle.semantics.proofs.Coverage.{Disjoint, InputDetermines, evaluates, Origin, Exact, tree_exact}
 
 -- the start's environment is made of the inputs
 start_env_lem : (θ : GroundSubst) (ps : List Param) (cs : List Exp) → fits ps cs ≡ true → bind_params (ground_exp θ) (ground_atomic θ) ps cs ≡ bind_inputs ps (ground_all θ cs)

@@ -1,23 +1,21 @@
 -- Tracing never gets stuck: each configuration that is derived from the start is terminal with an output, or has a transition.
-use Prim.Native.Nat.{ℕ, zero, suc}
-use mathlib.Core.Path.{◌≡◌, refl, ap, subst, ◌∙◌, sym as inv}
+use Prim.Native.Nat.{ℕ, zero}
+use mathlib.Core.Path.{◌≡◌, refl, ap, subst}
 use mathlib.Core.Bool.{Bool, true, false}
-use mathlib.Core.List.{List, [], ◌∷◌}
+use mathlib.Core.List.{List}
 use mathlib.Core.Option.{Option, none, some, none-ne-some, some-injective}
 use mathlib.Core.Logic.{◌⊎◌, inl, inr}
 use Rattle.expressions.specs.Expression.{Exp}
 use Rattle.expressions.specs.Substitution.{GroundSubst}
 use Rattle.expressions.specs.Restriction.{Restriction, Satisfies, simplify}
-use Rattle.expressions.specs.Contraction.{CRPair}
 use Rattle.expressions.specs.Class.{IOClass}
-use Rattle.expressions.specs.Split.{first_fresh}
 use Rattle.expressions.proofs.Simplification.{consistent_satisfiable}
-use Rattle.language.specs.Program.{Term, Prog, find}
+use Rattle.language.specs.Program.{Prog, find}
 use Rattle.language.specs.WellFormed.{fits, admitted}
-use Rattle.semantics.specs.Configuration.{state, Configuration, start_with, start}
+use Rattle.semantics.specs.Configuration.{Configuration, start_with, start}
 use Rattle.semantics.specs.Figure10.{Transition, Derivation, here, there, Terminal}
 use Rattle.semantics.specs.Trace.{Successors, terminal, called, branches, successors}
-use Rattle.semantics.specs.Demand2.{TraceProceeds, TraceNeverStuck}
+use Rattle.semantics.specs.Demand2.{TraceNeverStuck}
 use Rattle.semantics.proofs.Scopes.{scoped_once}
 use Rattle.semantics.proofs.TransitionCorrectness.{Invariant, BranchSound, HasSuccessor, TransitionCorrect, transition_correct}
 use Rattle.semantics.proofs.StartCorrectness.{start_invariant}

@@ -1,8 +1,8 @@
 -- Correctness of a transition (001, theorem 44): the step of a state of a configuration leads into exactly one of the configuration's successors.
-use Prim.Native.Nat.{ℕ, zero, suc, ◌+◌, ◌<◌, ◌≤◌}
+use Prim.Native.Nat.{ℕ, ◌+◌, ◌<◌, ◌≤◌}
 use mathlib.Core.Path.{◌≡◌, refl, ap, ap₂, subst, ◌∙◌, sym as inv}
 use mathlib.Core.Bool.{Bool, true, false, cond}
-use mathlib.Core.List.{List, [], ◌∷◌}
+use mathlib.Core.List.{List}
 use mathlib.Core.Option.{Option, none, some}
 use mathlib.Core.Logic.{◌⊎◌, inl, inr}
 use native.Mathlib.Omega.{arith}
@@ -11,16 +11,16 @@ use borrow.Author.Tests.{eqb-true, eqb-false, eq-eqb, ne_eqb}
 use Rattle.expressions.specs.Expression.{Value, atom, cons, AtomicExp, sym, avar, Exp, atm, evar, pair}
 use Rattle.expressions.specs.Substitution.{GroundSubst, ground_exp, ground_atomic, apply, apply_atomic}
 use Rattle.expressions.specs.Restriction.{Satisfies, same_atomic}
-use Rattle.expressions.specs.Contraction.{CRPair, Contraction, identity, contra, bind_e, bind_a, non_equal, mk_bind, equality_contraction, contract}
+use Rattle.expressions.specs.Contraction.{CRPair, Contraction, identity, bind_e, non_equal, mk_bind, equality_contraction, contract}
 use Rattle.expressions.specs.Class.{ground_io}
 use Rattle.expressions.proofs.Filling.{Holds}
 use Rattle.expressions.proofs.Simplification.{Consistent}
-use Rattle.expressions.proofs.Contracting.{OccursChecked, equality_occurs_checked, equal_holds, holds_equal, Agree, FreshE, FreshA, Fresh, FreshK, agree_down, Before, After, contract_back, contract_forth, contract_fresh, contract_consistent, head_of, tail_of, extend_fresh, extend_fresh_agree, extend_fresh_head, extend_fresh_tail, extend_fresh_atom, fresh_below}
-use Rattle.language.specs.Program.{Condition, eqa, consp, Term, call, conditional, result, Prog, find, atom_of}
-use Rattle.semantics.specs.Environment.{Env, update_e, update_a, bind_params}
+use Rattle.expressions.proofs.Contracting.{OccursChecked, equality_occurs_checked, equal_holds, holds_equal, Agree, FreshE, FreshA, Fresh, FreshK, agree_down, contract_back, contract_forth, contract_fresh, contract_consistent, head_of, tail_of, extend_fresh, extend_fresh_agree, extend_fresh_head, extend_fresh_tail, extend_fresh_atom, fresh_below}
+use Rattle.language.specs.Program.{eqa, consp, Term, call, conditional, result, Prog, find, atom_of}
+use Rattle.semantics.specs.Environment.{update_e, update_a, bind_params}
 use Rattle.semantics.specs.Figure4.{ValueEnv}
-use Rattle.semantics.specs.Evaluate.{ground_of, Next, end, go, step_pair, step, atom_in}
-use Rattle.semantics.specs.Configuration.{ExpEnv, ground_env, subst_of_env, State, GroundState, state, Configuration, with_env}
+use Rattle.semantics.specs.Evaluate.{ground_of, end, go, step_pair, step, atom_in}
+use Rattle.semantics.specs.Configuration.{ExpEnv, ground_env, subst_of_env, GroundState, state, Configuration, with_env}
 use Rattle.semantics.specs.Trace.{Successors, terminal, called, branches, configuration, trace_pair, successors_of}
 use Rattle.semantics.proofs.Grounding.{state_lawful, update_e_ground, update_a_ground, value_ground, atomic_ground, arguments_ground}
 

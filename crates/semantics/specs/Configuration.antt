@@ -1,7 +1,7 @@
 -- Configurations (001, figures 8 and 9, definitions 38 and 40), carried with the class as in tabulation (section 6.2).
 use Rattle.std.specs.Prelude.{ℕ, ◌+◌, List, [], ◌∷◌, length}
 use Rattle.std.proofs.Math.Option.{Option, none, some}
-use Rattle.expressions.specs.Expression.{Value, AtomicExp, Exp, atm, sym, nodes}
+use Rattle.expressions.specs.Expression.{AtomicExp, Exp, atm, sym, nodes}
 use Rattle.expressions.specs.Substitution.{GroundSubst, ground_exp, ground_atomic, Substitution, apply, apply_atomic}
 use Rattle.expressions.specs.Restriction.{Restriction, simplify, nodes_restriction}
 use Rattle.expressions.specs.Contraction.{Construction, CRPair}

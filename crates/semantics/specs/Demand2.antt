@@ -1,6 +1,6 @@
 -- Demand 2, as statements with the rules of figures 4 and 10: an accepted program never gets stuck and binds no bound name (02, request 1), the
 -- runner gives the value and the steps of the evaluation rules, the listing has exactly the lines of the tracing rules, in order.
-use Rattle.std.specs.Prelude.{ℕ, ◌≤◌, ◌≡◌, Bool, true, false, List, [], ◌∷◌, ◌++◌, map, ◌⊎◌, ◌↔◌}
+use Rattle.std.specs.Prelude.{ℕ, ◌≤◌, ◌≡◌, Bool, true, false, List, [], ◌∷◌, ◌++◌, map, ◌⊎◌}
 use Rattle.std.proofs.Math.Option.{Option, none, some}
 use Rattle.expressions.specs.Expression.{Value, Exp}
 use Rattle.expressions.specs.Substitution.{Substitution}
@@ -12,8 +12,8 @@ use Rattle.semantics.specs.Environment.{Env, Unbound, DistinctNames}
 use Rattle.semantics.specs.Figure4.{ValueEnv, ValueOf, Step, Reaches, Initial, Outputs, RunsLonger}
 use Rattle.semantics.specs.Configuration.{Configuration, start}
 use Rattle.semantics.specs.Figure10.{Transition, Derivation, Terminal}
-use Rattle.semantics.specs.Tree.{Node, Line, meeting_at, Listing, listing}
-use Rattle.semantics.specs.Walk.{Walked, going, stopped, lines_of}
+use Rattle.semantics.specs.Tree.{Line, meeting_at, listing}
+use Rattle.semantics.specs.Walk.{Walked, lines_of}
 use Rattle.semantics.specs.Runner.{Ran, value, ran_over, not_within}
 
 -- "A name .. that a `cons?` binds may no longer be one already in reach on that branch. .. 01's rule that a later binding replaces the

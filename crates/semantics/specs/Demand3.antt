@@ -1,13 +1,13 @@
 -- Demand 3, as one statement with the evaluation rules of figure 4.
-use Rattle.std.specs.Prelude.{ℕ, ◌≤◌, ◌<◌, ◌≡◌, Bool, true, false, List, [], ◌∷◌, ◌↔◌, length, get_or}
+use Rattle.std.specs.Prelude.{ℕ, ◌≤◌, ◌<◌, ◌≡◌, true, List, ◌↔◌, length, get_or}
 use Rattle.expressions.specs.Expression.{Value}
 use Rattle.expressions.specs.Class.{IOClass, InClass}
 use Rattle.language.specs.Program.{Prog}
 use Rattle.semantics.specs.Lists.{All, Any}
 use Rattle.semantics.specs.Figure4.{Outputs, RunsLonger}
 use Rattle.semantics.specs.Configuration.{start}
-use Rattle.semantics.specs.Tree.{Line, Tree, tree_of, leaves, leaves_lines, unfinished_nodes, any_of, edges}
-use Rattle.semantics.specs.Walk.{Walked, going, stopped, Word, whole, cut, stop, word_of, lines_of, count_of}
+use Rattle.semantics.specs.Tree.{Line, tree_of, leaves, leaves_lines, unfinished_nodes, any_of, edges}
+use Rattle.semantics.specs.Walk.{Walked, Word, whole, cut, stop, word_of, lines_of, count_of}
 
 -- demand 3: "01's walk ends as whole or cut"
 abbrev pub Unstopped : Word → Type 0

@@ -2,10 +2,10 @@
 -- the atom 0, an unknown function gives it; no accepted program meets either.
 use Rattle.std.specs.Prelude.{ℕ, zero, suc, cond, List, [], ◌∷◌, eqb}
 use Rattle.std.proofs.Math.Option.{Option, none, some}
-use Rattle.expressions.specs.Expression.{Value, atom, cons, Exp}
+use Rattle.expressions.specs.Expression.{Value, atom, cons}
 use Rattle.expressions.specs.Substitution.{GroundSubst, ground_exp, ground_atomic}
-use Rattle.language.specs.Program.{Condition, eqa, consp, Term, call, conditional, result, Param, pe, pa, Def, Prog, find, atom_of}
-use Rattle.semantics.specs.Environment.{Env, lookup, update_e, update_a, empty_env, add_e, add_a, bind_params, names}
+use Rattle.language.specs.Program.{eqa, consp, Term, call, conditional, result, Param, pe, pa, Prog, find, atom_of}
+use Rattle.semantics.specs.Environment.{lookup, update_e, update_a, empty_env, add_e, add_a, bind_params, names}
 use Rattle.semantics.specs.Figure4.{ValueEnv}
 
 -- an environment grounds a program's expressions: e/σ

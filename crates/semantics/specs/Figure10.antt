@@ -1,12 +1,12 @@
 -- Tracing: the rules of figure 10 of 001 with the transition of tabulation (section 6.2). No rule has a default.
-use Rattle.std.specs.Prelude.{ℕ, zero, suc, ◌+◌, ◌≤◌, ◌≡◌, Bool, true, false, List, [], ◌∷◌}
+use Rattle.std.specs.Prelude.{ℕ, zero, suc, ◌+◌, ◌≡◌, Bool, true, false, List, [], ◌∷◌}
 use Rattle.std.proofs.Math.Option.{Option, none, some}
 use Rattle.expressions.specs.Expression.{AtomicExp, sym, avar, Exp, atm, evar, pair}
 use Rattle.expressions.specs.Contraction.{CRPair, Contraction, identity, bind_e, bind_a, non_equal, contract}
-use Rattle.language.specs.Program.{Condition, eqa, consp, Term, call, conditional, result, Param, pe, pa, Def, Prog}
-use Rattle.semantics.specs.Environment.{Env, Binds, update_e, update_a, empty_env, add_e, add_a}
+use Rattle.language.specs.Program.{eqa, consp, Term, call, conditional, result, Param, pe, pa, Def, Prog}
+use Rattle.semantics.specs.Environment.{Binds, update_e, update_a, empty_env, add_e, add_a}
 use Rattle.semantics.specs.Figure4.{Defines}
-use Rattle.semantics.specs.Configuration.{ExpEnv, State, state, Configuration, with_env}
+use Rattle.semantics.specs.Configuration.{ExpEnv, state, Configuration, with_env}
 
 -- ea/σ̂ = d̂a
 pub data CAtomOf (σ : ExpEnv) : Exp → AtomicExp → Type 0 where

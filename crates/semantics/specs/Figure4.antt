@@ -1,7 +1,7 @@
 -- Evaluation: the rules of figure 4 of 001, and definition 1. No rule has a default.
 use Rattle.std.specs.Prelude.{ℕ, zero, suc, ◌≤◌, ◌≡◌, List, [], ◌∷◌}
 use Rattle.expressions.specs.Expression.{Value, atom, cons, sym, avar, Exp, atm, evar, pair}
-use Rattle.language.specs.Program.{Condition, eqa, consp, Term, call, conditional, result, Param, pe, pa, Def, Prog}
+use Rattle.language.specs.Program.{eqa, consp, Term, call, conditional, result, Param, pe, pa, Def, Prog}
 use Rattle.semantics.specs.Environment.{Env, Binds, update_e, update_a, empty_env, add_e, add_a, names}
 
 abbrev pub ValueEnv : Type 0

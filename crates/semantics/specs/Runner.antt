@@ -2,7 +2,6 @@
 use Rattle.std.specs.Prelude.{ℕ, zero, suc, ◌+◌, Bool, true, false, List, [], ◌∷◌, ltb, length}
 use Rattle.expressions.specs.Expression.{Value, atom, cons}
 use Rattle.language.specs.Program.{Term, call, conditional, result, Prog}
-use Rattle.semantics.specs.Environment.{Env}
 use Rattle.semantics.specs.Figure4.{ValueEnv}
 use Rattle.semantics.specs.Evaluate.{Next, end, go, step, start_term, start_env}
 use Rattle.semantics.specs.Walk.{node_limit}

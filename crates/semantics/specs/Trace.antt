@@ -1,13 +1,13 @@
 -- Tracing as a function, for accepted programs that of figure 10 (proofs/Tracing.antt). Total as evaluation is.
 use Rattle.std.specs.Prelude.{ℕ}
 use Rattle.std.proofs.Math.Option.{Option, none, some}
-use Rattle.expressions.specs.Expression.{AtomicExp, avar, Exp, atm, evar, pair}
+use Rattle.expressions.specs.Expression.{avar, Exp, atm, evar, pair}
 use Rattle.expressions.specs.Substitution.{apply, apply_atomic}
 use Rattle.expressions.specs.Contraction.{CRPair, contract}
 use Rattle.expressions.specs.Split.{Split, take_numbers, split_atomic, split_exp}
-use Rattle.language.specs.Program.{Condition, eqa, consp, Term, call, conditional, result, Prog, find, atom_of}
-use Rattle.semantics.specs.Environment.{Env, update_e, update_a, bind_params}
-use Rattle.semantics.specs.Configuration.{subst_of_env, State, state, Configuration, with_env}
+use Rattle.language.specs.Program.{eqa, consp, Term, call, conditional, result, Prog, find, atom_of}
+use Rattle.semantics.specs.Environment.{update_e, update_a, bind_params}
+use Rattle.semantics.specs.Configuration.{subst_of_env, state, Configuration, with_env}
 
 -- what a configuration leads to: an end with its output, the configuration behind a call, or the true and the false branch
 -- of a condition, where a branch that contradicts is `none`

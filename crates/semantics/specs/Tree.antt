@@ -4,10 +4,10 @@ use Rattle.std.proofs.Math.Option.{Option, none, some}
 use Rattle.expressions.specs.Expression.{Exp}
 use Rattle.expressions.specs.Contraction.{CRPair}
 use Rattle.expressions.specs.Class.{IOClass}
-use Rattle.expressions.specs.Intersection.{Meeting, meeting, Intersected, common, disjoint, too_large, unify, intersect, no_limit}
+use Rattle.expressions.specs.Intersection.{meeting, Intersected, common, disjoint, too_large, unify, intersect, no_limit}
 use Rattle.language.specs.Program.{Prog}
 use Rattle.semantics.specs.Configuration.{Configuration, start}
-use Rattle.semantics.specs.Trace.{Successors, terminal, called, branches, successors_of, successors}
+use Rattle.semantics.specs.Trace.{Successors, terminal, called, branches, successors}
 
 -- A node of the tree: a configuration, the transitions from the start to it, and the decisions among these, first one first.
 pub record Node : Type 0 where

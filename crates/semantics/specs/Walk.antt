@@ -1,7 +1,6 @@
 -- The walk with its stops (01, "The walk and what stops it"): a machine over the list of untaken transitions.
 use Rattle.std.specs.Prelude.{ℕ, zero, suc, ◌+◌, Bool, true, false, cond, ◌||◌, List, [], ◌∷◌, ◌++◌, leb, ltb, length}
 use Rattle.std.proofs.Math.Option.{Option, none, some}
-use Rattle.expressions.specs.Expression.{Exp}
 use Rattle.expressions.specs.Contraction.{CRPair}
 use Rattle.expressions.specs.Class.{IOClass, nodes_class}
 use Rattle.expressions.specs.Intersection.{meeting, Intersected, common, disjoint, too_large, unify, intersect, nodes_meeting}

@@ -1,22 +1,19 @@
 -- What filling and renaming are where the cells hold trees: substitution, if there is room for what it makes.
-use Prim.Native.Nat.{ℕ, suc, ◌+◌, ◌-◌, ◌≤◌, ◌<◌, min}
-use mathlib.Core.Path.{◌≡◌, refl, ap, ap₂, ◌∙◌, sym as inv}
+use Prim.Native.Nat.{ℕ}
+use mathlib.Core.Path.{◌≡◌, refl, ap, sym as inv}
 use mathlib.Core.Bool.{Bool, true, false, cond}
 use mathlib.Core.List.{List, [], ◌∷◌, ◌++◌, map, append_assoc, append-nil}
 use native.Mathlib.Omega.{arith}
-use native.Mathlib.Decide.{dec_le}
-use native.Mathlib.Numerals.{add-one}
-use lib.Dec.{eqb, ltb, leb}
-use lib.ListN.{length, take, drop, set, length-append, length-drop}
-use lib.Seq.{paste, paste-zero, take-length, take-take, take_at, drop_at, drop-drop, set_split, append_snoc, length-take-le}
-use borrow.Author.Tests.{ne_eqb, le-ltb, lt-leb, ltb-false, leb-false}
-use Rattle.expressions.specs.Expression.{AtomicExp, sym, avar, Exp, atm, evar, pair, nodes, nodes_all}
+use lib.Dec.{eqb}
+use lib.ListN.{length}
+use borrow.Author.Tests.{ne_eqb}
+use Rattle.expressions.specs.Expression.{AtomicExp, sym, avar, Exp, atm, evar, pair}
 use Rattle.expressions.specs.Substitution.{apply_atomic, apply, apply_all, subst_e, subst_a}
 use Rattle.expressions.specs.Restriction.{Restriction, apply_non_equality, nodes_restriction}
 use Rattle.sets.specs.Twins.Copying.{part, tree_end}
 use Rattle.sets.specs.Cells.{pair_code, evar_code, avar_code, atomic_code, cells, cells_all, restriction_cells}
 use Rattle.sets.specs.Twins.Fill.{spread, renamed}
-use Rattle.sets.proofs.CellLaws.{atomic_not_evar, code_test, cells_nodes, cells_all_nodes, restriction_cells_nodes, Stands, stands_part}
+use Rattle.sets.proofs.CellLaws.{atomic_not_evar, code_test, restriction_cells_nodes, Stands, stands_part}
 
 pub spread_append : (x : ℕ) (v s t : List ℕ) → spread x v (s ++ t) ≡ spread x v s ++ spread x v t
 spread_append x v [] t = refl

@@ -9,7 +9,7 @@ use native.Mathlib.Numerals.{add-one}
 use lib.Dec.{leb, ltb, eqb}
 use lib.ListN.{length, drop, get_or, set, drop_of_length-le}
 use lib.Seq.{drop-cons, take-nil}
-use borrow.Author.Tests.{eq-eqb, ne_eqb, le-leb, lt-leb, lt-ltb, le-ltb, ltb-false, leb-false}
+use borrow.Author.Tests.{eq-eqb, ne_eqb, ltb-false, leb-false}
 use Rattle.sets.specs.Twins.Copying.{part, one_pair, four_pairs, behind_four, walk_trees, any_cell}
 use Rattle.sets.specs.Twins.Fill.{renamed}
 

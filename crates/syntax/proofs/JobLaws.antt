@@ -195,9 +195,9 @@ module _ (tok mtok : ℕ → Token) (n m : ℕ) (tool : Tool) (num val : ℕ →
   fit_at [] (at.ParamsAt.none_at x) = x.key
   fit_at (c ∷ cs) (at.ParamsAt.none_at x) = rw x.key (inv (eqb-zero-suc (length cs)))
   fit_at [] (at.ParamsAt.e_at {xs = ys} b x xs) = b ∙ inv (eqb-suc-zero (length ys))
-  fit_at {p} (c ∷ cs) (at.ParamsAt.e_at {xs = ys} b x xs) = let y = x.below in rw (b, ahead_in m 1 p (omega arith)) (fit_at cs xs ∙ inv (eqb-suc-suc (length ys) (length cs)))
+  fit_at {p} (c ∷ cs) (at.ParamsAt.e_at {xs = ys} b x xs) = let y = x.below in rw (b, ahead_in m 1 p (omega arith)) (fit_at {p = p + 1} cs xs ∙ inv (eqb-suc-suc (length ys) (length cs)))
   fit_at [] (at.ParamsAt.a_at {xs = ys} b x xs) = b ∙ inv (eqb-suc-zero (length ys))
-  fit_at {p} (c ∷ cs) (at.ParamsAt.a_at {xs = ys} b x xs) = let y = x.below in rw (b, ahead_in m 1 p (omega arith)) (fit_at cs xs ∙ inv (eqb-suc-suc (length ys) (length cs)))
+  fit_at {p} (c ∷ cs) (at.ParamsAt.a_at {xs = ys} b x xs) = let y = x.below in rw (b, ahead_in m 1 p (omega arith)) (fit_at {p = p + 1} cs xs ∙ inv (eqb-suc-suc (length ys) (length cs)))
 
   or_else_assoc : (u v w : bytes.Verdict) → ((u or_else v) or_else w) ≡ (u or_else v or_else w)
   or_else_assoc none v w = refl
@@ -209,11 +209,11 @@ module _ (tok mtok : ℕ → Token) (n m : ℕ) (tool : Tool) (num val : ℕ →
   uses_at (c ∷ cs) (at.ParamsAt.none_at x) e = let z : ⊥ = omega arith in absurd z
   uses_at [] (at.ParamsAt.e_at b x xs) e = let z : ⊥ = omega arith in absurd z
   uses_at {p} (c ∷ cs) (at.ParamsAt.e_at b x xs) e =
-      let y = x.below in rw (is_a_other ename aname (mtok p) x.kind, ahead_in m 1 p (omega arith)) (ap (λ v. variables tool c or_else v) (uses_at cs xs (omega arith)))
+      let y = x.below in rw (is_a_other ename aname (mtok p) x.kind, ahead_in m 1 p (omega arith)) (ap (λ v. variables tool c or_else v) (uses_at {p = p + 1} cs xs (omega arith)))
   uses_at [] (at.ParamsAt.a_at b x xs) e = let z : ⊥ = omega arith in absurd z
   uses_at {p} (c ∷ cs) (at.ParamsAt.a_at {xs = ys} b x xs) e =
       let y = x.below in rw (x.kind, ahead_in m 1 p (omega arith)) (or_else_assoc (unless (is_atomic (exp c)) 10 (at_of c)) (variables tool c) (inputs_uses (p + 1) cs) ∙
-      ap (λ v. unless (is_atomic (exp c)) 10 (at_of c) or_else variables tool c or_else v) (uses_at cs xs (omega arith)))
+      ap (λ v. unless (is_atomic (exp c)) 10 (at_of c) or_else variables tool c or_else v) (uses_at {p = p + 1} cs xs (omega arith)))
 
   -- 10 whole
   inputs_end : (t : Bool) (o : ℕ) (u w : bytes.Verdict) → (t ≡ true → u ≡ w) → first (judge t 10 o) (coded u) ≡ coded (unless t 10 o or_else w)
@@ -317,7 +317,7 @@ module _ (tok mtok : ℕ → Token) (n m : ℕ) (tool : Tool) (num val : ℕ →
           ← (coded_judge (side_fits cs (exp c)) 11 (at_of c)),
           ← (coded_judge (side_fits cs (exp d)) 11 (at_of d)),
           ← (coded_first p r),
-          sides_at_lem f (first v (coded (p or_else r))) qs q,
+          sides_at_lem {i = k + 1} f (first v (coded (p or_else r))) qs q,
           first_assoc,
           ← (coded_first (p or_else r) (sides_verdict cs rest)),
           or_else_assoc p r,

@@ -12,10 +12,11 @@ use Rattle.language.specs.Reader.{ok, Reader, is}
 use Rattle.grammar.specs.Twins.Positions.{nothing}
 use Rattle.language.specs.Source.{Stand, SExp, SJob}
 use Rattle.language.specs.Grammar as grammar
+use Rattle.language.specs.Grammar.{standing}
 use Rattle.syntax.specs.Twins.Standing.{WordAt, NameAt, ExpAt, ExpsAt, SidesAt, NumeralAt, JobAt, job_at}
 use Rattle.syntax.specs.Twins.Standing as at
 use Rattle.syntax.proofs.Tracks.{token_at}
-use Rattle.syntax.proofs.ReadParts.{Part, Given, given, Both, both, Either, left, right, Items, done, item, Wrong, never, Reads, read_as, give_reads, bind_reads, then_reads, wrong_reads, choose_reads, up_to_reads}
+use Rattle.syntax.proofs.ReadParts.{Part, Given, given, given_as, Both, both, Either, left, right, Items, done, item, Wrong, never, Reads, read_as, give_reads, bind_reads, then_reads, wrong_reads, choose_reads, up_to_reads}
 use Rattle.syntax.proofs.Standing.{Word, word, Standing, stand, Exp, the_reads, word_reads, datum_reads, items_at}
 
 -- `(w ..)`
@@ -33,7 +34,8 @@ sides_reads = then_reads (the_reads "[") (bind_reads (datum_reads 61) (λ c. bin
 
 sides_at_lem : {ts : List Token} {i : ℕ} {qs : List (SExp × SExp)} {k : ℕ} → Items ts ")" (Sides ts) i qs k → SidesAt (token_at ts) (length ts) i qs k
 sides_at_lem (done l e) = at.SidesAt.none_at (record { below = l; key = e })
-sides_at_lem (item b (both w j (word o) (both c g x (both d h y (both v m (word z) given)))) qs) = at.SidesAt.more_at b o x y z (sides_at_lem qs)
+sides_at_lem {ts = ts} {i = i} {k = k} (item {rest = rest} b (both w j (word o) (both c g x (both d h y (both v m (word z) gv)))) qs) =
+    given_as (λ q j. SidesAt (token_at ts) (length ts) j rest k → SidesAt (token_at ts) (length ts) i (q ∷ rest) k) gv (λ r. at.SidesAt.more_at b o x y z r) (sides_at_lem qs)
 
 abbrev Numeral : List Token → String → Part (ℕ × Stand)
 Numeral ts w = Section ts w (Standing ts plain)
@@ -51,20 +53,29 @@ job_reads = then_reads (the_reads "(") (then_reads (the_reads "job") (bind_reads
     bind_reads (part_reads "table" (word_reads plain)) (λ t. then_reads (the_reads ")") (choose_reads grammar.is_end refl
     (give_reads (record { in_at = i.0; ins = i.1; out = o.1; neqs = q.1; steps = n.1; walk = w.1; table = t.1 })) wrong_reads)))))))))
 
+-- a part of a text, and what stands behind it
+section_split : {A B : Type 0} {ts : List Token} {w : String} {R : Part A} {S : ℕ × A → Part B} {i : ℕ} {b : B} {k : ℕ} (T : Type 0) → Both (Section ts w R) S i b k →
+    ((m : ℕ) (a : A) → WordAt (token_at ts) (length ts) "(" i → WordAt (token_at ts) (length ts) w (i + 1) → R (i + 1 + 1) a m → WordAt (token_at ts) (length ts) ")" m →
+    S ((token_at ts (i + 1)).at, a) (m + 1) b k → T) → T
+section_split {S = S} {b = b} {k = k} T (both a j (both u p (word x) (both v q (word y) (both c m r (both w z (word o) g)))) s) f =
+    given_as (λ a j. S a j b k → T) g (f m c x y r o) s
+
+numeral_split : {B : Type 0} {ts : List Token} {w : String} {S : ℕ × Stand → Part B} {i : ℕ} {b : B} {k : ℕ} (T : Type 0) → Both (Numeral ts w) S i b k →
+    (NumeralAt (token_at ts) (length ts) w i → S ((token_at ts (i + 1)).at, standing (token_at ts (i + 2))) (i + 4) b k → T) → T
+numeral_split {S = S} {b = b} {k = k} T (both a j (both u p (word x) (both v q (word y) (both c m (stand r) (both w z (word o) g)))) s) f =
+    given_as (λ a j. S a j b k → T) g (simp add_assoc (f (record { opens = x; word = y; numeral = simp add_assoc at r; closes = simp add_assoc at o }))) s
+
 pub job_stands : (ts : List Token) (j : SJob) (rest : List Token) → grammar.job_text ts ≡ ok (j, rest) → JobAt (token_at ts) (length ts) j
 job_stands ts j rest e = on (job_reads.reads 0 (omega arith) j rest e).stands
   where
+    last : {j h : SJob} {i k : ℕ} → Both (Word ts ")") (λ x. Either ts grammar.is_end (Given h) Wrong) i j k → (WordAt (token_at ts) (length ts) ")" i → JobAt (token_at ts) (length ts) h) →
+        JobAt (token_at ts) (length ts) j
+    last (both u p (word x) (left l e g)) f = given_as (λ j k. JobAt (token_at ts) (length ts) j) g (f x)
+    last (both u p (word x) (right e z)) f = never (λ i j k. JobAt (token_at ts) (length ts) j) _ _ _ z
+
     on : {j : SJob} {k : ℕ} → Job ts 0 j k → JobAt (token_at ts) (length ts) j
-    on (both _ _ (word a) (both _ _ (word b) (both _ _ (both _ _ (word c) (both _ _ (word d) (both _ _ ins (both _ _ (word e) given))))
-        (both _ _ (both _ _ (word f) (both _ _ (word g) (both _ _ out (both _ _ (word h) given))))
-        (both _ _ (both _ _ (word i) (both _ _ (word j) (both _ _ qs (both _ _ (word k) given))))
-        (both _ _ (both _ _ (word l) (both _ _ (word m) (both _ _ (stand n) (both _ _ (word o) given))))
-        (both _ _ (both _ _ (word p) (both _ _ (word q) (both _ _ (stand r) (both _ _ (word s) given))))
-        (both _ _ (both _ _ (word t) (both _ _ (word u) (both _ _ (stand v) (both _ _ (word w) given))))
-        (both _ _ (word x) (left _ _ given)))))))))) =
-        simp add_assoc (job_at a b c d (items_at ins) f (simp add_assoc at g) (simp add_assoc at out) h i (simp add_assoc at j) (simp add_assoc at (sides_at_lem qs))
-        (record { opens = l; word = m; numeral = simp add_assoc (simp add_assoc at n); closes = simp add_assoc (simp add_assoc at o) })
-        (record { opens = simp add_assoc at p; word = simp add_assoc (simp add_assoc at q); numeral = simp add_assoc (simp add_assoc at r); closes = simp add_assoc (simp add_assoc at s) })
-        (record { opens = simp add_assoc at t; word = simp add_assoc (simp add_assoc at u); numeral = simp add_assoc (simp add_assoc at v); closes = simp add_assoc (simp add_assoc at w) })
-        (simp add_assoc at x))
-    on (both _ _ (word a) (both _ _ (word b) (both _ _ _ (both _ _ _ (both _ _ _ (both _ _ _ (both _ _ _ (both _ _ _ (both _ _ _ (right _ z)))))))))) = never (λ i j k. JobAt (token_at ts) (length ts) j) _ _ _ z
+    on {j} {k} (both _ _ (word a) (both _ _ (word b) r)) =
+        let T = JobAt (token_at ts) (length ts) j in
+        section_split T r (λ m ins c d xs e r. section_split T r (λ m' out f g y h r. section_split T r (λ m'' neqs i o qs p r.
+        numeral_split T r (λ steps r. numeral_split T r (λ walk r. numeral_split T r (λ table r. last r (λ x. simp add_assoc (job_at a b c d (items_at xs) f (simp add_assoc at g) (simp add_assoc at y) h
+        i (simp add_assoc at o) (simp add_assoc at (sides_at_lem qs)) steps (simp add_assoc at walk) (simp add_assoc at table) (simp add_assoc at x)))))))))

@@ -106,9 +106,9 @@ module _ (tok : ℕ → Token) (n : ℕ) where
   params_end_lem zero (at.ParamsAt.none_at x) l = refl
   params_end_lem (suc room) (at.ParamsAt.none_at x) l = rw x.key
   params_end_lem zero (at.ParamsAt.e_at b x xs) l = let z : ⊥ = omega arith in absurd z
-  params_end_lem {i} (suc room) (at.ParamsAt.e_at b x xs) l = let y = x.below in rw (b, ahead_in n 1 i (omega arith)) (params_end_lem room xs (omega arith))
+  params_end_lem {i} (suc room) (at.ParamsAt.e_at b x xs) l = let y = x.below in rw (b, ahead_in n 1 i (omega arith)) (params_end_lem {i = i + 1} room xs (omega arith))
   params_end_lem zero (at.ParamsAt.a_at b x xs) l = let z : ⊥ = omega arith in absurd z
-  params_end_lem {i} (suc room) (at.ParamsAt.a_at b x xs) l = let y = x.below in rw (b, ahead_in n 1 i (omega arith)) (params_end_lem room xs (omega arith))
+  params_end_lem {i} (suc room) (at.ParamsAt.a_at b x xs) l = let y = x.below in rw (b, ahead_in n 1 i (omega arith)) (params_end_lem {i = i + 1} room xs (omega arith))
 
   either_wide : (sc td : Names) (m : ℕ) (b : Bool) → Wide sc m → Wide td m → Wide (cond b sc td) m
   either_wide sc td m true v w = v
@@ -148,11 +148,11 @@ module _ (tok : ℕ → Token) (n : ℕ) where
   params_also zero sc (at.ParamsAt.e_at b x xs) l w = let z : ⊥ = omega arith in absurd z
   params_also {i} (suc room) sc (at.ParamsAt.e_at {xs = ys} b x xs) l w =
       let y = x.below in
-      rw (b, ahead_in n 1 i (omega arith)) (also_e sc (names_of room (push sc i) (i + 1)) (scope_of (params ys)) i room w x.kind (params_also room (push sc i) xs (omega arith) (push_wide sc i room w)))
+      rw (b, ahead_in n 1 i (omega arith)) (also_e sc (names_of room (push sc i) (i + 1)) (scope_of (params ys)) i room w x.kind (params_also {i = i + 1} room (push sc i) xs (omega arith) (push_wide sc i room w)))
   params_also zero sc (at.ParamsAt.a_at b x xs) l w = let z : ⊥ = omega arith in absurd z
   params_also {i} (suc room) sc (at.ParamsAt.a_at {xs = ys} b x xs) l w =
       let y = x.below in
-      rw (b, ahead_in n 1 i (omega arith)) (also_a sc (names_of room (push sc i) (i + 1)) (scope_of (params ys)) i room w x.kind (params_also room (push sc i) xs (omega arith) (push_wide sc i room w)))
+      rw (b, ahead_in n 1 i (omega arith)) (also_a sc (names_of room (push sc i) (i + 1)) (scope_of (params ys)) i room w x.kind (params_also {i = i + 1} room (push sc i) xs (omega arith) (push_wide sc i room w)))
 
   pub params_reach : {i : ℕ} {xs : List SParam} {k : ℕ} (room : ℕ) → ParamsAt tok n i xs k → length xs ≤ room → room ≤ 144 → Reach tok n (names_of room no_names i) (scope_of (params xs))
   unfolding is_named
@@ -168,9 +168,9 @@ module _ (tok : ℕ → Token) (n : ℕ) where
   fit_at [] (at.ParamsAt.none_at x) = x.key
   fit_at (c ∷ cs) (at.ParamsAt.none_at x) = rw x.key (inv (eqb-zero-suc (length cs)))
   fit_at [] (at.ParamsAt.e_at {xs = ys} b x xs) = b ∙ inv (eqb-suc-zero (length ys))
-  fit_at {p} (c ∷ cs) (at.ParamsAt.e_at {xs = ys} b x xs) = let y = x.below in rw (b, ahead_in n 1 p (omega arith)) (fit_at cs xs ∙ inv (eqb-suc-suc (length ys) (length cs)))
+  fit_at {p} (c ∷ cs) (at.ParamsAt.e_at {xs = ys} b x xs) = let y = x.below in rw (b, ahead_in n 1 p (omega arith)) (fit_at {p = p + 1} cs xs ∙ inv (eqb-suc-suc (length ys) (length cs)))
   fit_at [] (at.ParamsAt.a_at {xs = ys} b x xs) = b ∙ inv (eqb-suc-zero (length ys))
-  fit_at {p} (c ∷ cs) (at.ParamsAt.a_at {xs = ys} b x xs) = let y = x.below in rw (b, ahead_in n 1 p (omega arith)) (fit_at cs xs ∙ inv (eqb-suc-suc (length ys) (length cs)))
+  fit_at {p} (c ∷ cs) (at.ParamsAt.a_at {xs = ys} b x xs) = let y = x.below in rw (b, ahead_in n 1 p (omega arith)) (fit_at {p = p + 1} cs xs ∙ inv (eqb-suc-suc (length ys) (length cs)))
 
   pub uses_at : {p : ℕ} {xs : List SParam} {k : ℕ} (s : Scope) (cs : List SExp) → ParamsAt tok n p xs k → length xs ≡ length cs → args_uses tok n s p cs ≡ reach_args s (params xs) cs
   unfolding args_uses arg_uses
@@ -178,7 +178,7 @@ module _ (tok : ℕ → Token) (n : ℕ) where
   uses_at s (c ∷ cs) (at.ParamsAt.none_at x) e = let z : ⊥ = omega arith in absurd z
   uses_at s [] (at.ParamsAt.e_at b x xs) e = let z : ⊥ = omega arith in absurd z
   uses_at {p} s (c ∷ cs) (at.ParamsAt.e_at b x xs) e =
-      let y = x.below in rw (is_a_other ename aname (tok p) x.kind, ahead_in n 1 p (omega arith)) (ap (λ v. reach_e s c or_else v) (uses_at s cs xs (omega arith)))
+      let y = x.below in rw (is_a_other ename aname (tok p) x.kind, ahead_in n 1 p (omega arith)) (ap (λ v. reach_e s c or_else v) (uses_at {p = p + 1} s cs xs (omega arith)))
   uses_at s [] (at.ParamsAt.a_at b x xs) e = let z : ⊥ = omega arith in absurd z
   uses_at {p} s (c ∷ cs) (at.ParamsAt.a_at b x xs) e =
-      let y = x.below in rw (x.kind, ahead_in n 1 p (omega arith)) (ap (λ v. reach_ea s c or_else v) (uses_at s cs xs (omega arith)))
+      let y = x.below in rw (x.kind, ahead_in n 1 p (omega arith)) (ap (λ v. reach_ea s c or_else v) (uses_at {p = p + 1} s cs xs (omega arith)))

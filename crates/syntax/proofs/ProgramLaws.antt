@@ -72,12 +72,12 @@ module _ (tok : ℕ → Token) (n : ℕ) where
   twice_at {i} (suc room) sc ps r w (at.ParamsAt.e_at {xs = ys} b x xs) l =
       let y = x.below in
       rw (b, ahead_in n 1 i (omega arith), r.evars i x.kind) (twice_step (has_param (pe (tok i).num) ps) (tok i).at _ (meaning.params_twice (pe (tok i).num ∷ ps) ys)
-      (twice_at room (push sc i) (pe (tok i).num ∷ ps) (e_earlier sc ps i room w x.kind r) (push_wide sc i room w) xs (omega arith)))
+      (twice_at {i = i + 1} room (push sc i) (pe (tok i).num ∷ ps) (e_earlier sc ps i room w x.kind r) (push_wide sc i room w) xs (omega arith)))
   twice_at zero sc ps r w (at.ParamsAt.a_at b x xs) l = let z : ⊥ = omega arith in absurd z
   twice_at {i} (suc room) sc ps r w (at.ParamsAt.a_at {xs = ys} b x xs) l =
       let y = x.below in
       rw (b, ahead_in n 1 i (omega arith), r.avars i x.kind) (twice_step (has_param (pa (tok i).num) ps) (tok i).at _ (meaning.params_twice (pa (tok i).num ∷ ps) ys)
-      (twice_at room (push sc i) (pa (tok i).num ∷ ps) (a_earlier sc ps i room w x.kind r) (push_wide sc i room w) xs (omega arith)))
+      (twice_at {i = i + 1} room (push sc i) (pa (tok i).num ∷ ps) (a_earlier sc ps i room w x.kind r) (push_wide sc i room w) xs (omega arith)))
 
 -- no function of these definitions has the name x
 unknown : ℕ → List SDef → Bool

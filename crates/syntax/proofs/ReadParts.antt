@@ -22,6 +22,10 @@ Part A = ℕ → A → ℕ → Type 0
 pub data Given {A : Type 0} (a : A) (i : ℕ) : A → ℕ → Type 0 where
   given : Given a i a i
 
+-- what holds of what was given, where it was given
+pub given_as : {A : Type 0} {a b : A} {i k : ℕ} (P : A → ℕ → Type 0) → Given a i b k → P a i → P b k
+given_as P given p = p
+
 pub data Taken (ts : List Token) (f : Token → Fit) (i : ℕ) : Token → ℕ → Type 0 where
   taken : i < length ts → f (token_at ts i) ≡ fits → Taken ts f i (token_at ts i) (i + 1)
 
@@ -143,7 +147,7 @@ module _ {ts : List Token} where
     where
       opened : (i : ℕ) (a : List A) (k : ℕ) → Either ts (is w) (Given []) (Both R (λ x. Both (Items ts w R) (λ xs. Given (x ∷ xs)))) i a k → Items ts w R i a k
       opened i a k (left l y given) = done l y
-      opened i a k (right y (both x j r (both xs m q given))) = item y r q
+      opened i a k (right y (both x j r (both xs m q g))) = given_as (Items ts w R i) g (item y r q)
 
   pub up_to_reads : {A : Type 0} {R : Part A} {m : Reader A} (w : String) → is w nothing ≡ false → Reads ts m R → Reads ts (up_to w m) (Items ts w R)
   up_to_reads w z h = record { reads = λ i l a rest e. (many_reads (length (drop i ts)) w z h).reads i l a rest e }

@@ -18,7 +18,7 @@ use Rattle.language.specs.Grammar.{standing}
 use Rattle.syntax.specs.Twins.Standing.{WordAt, NameAt, e_kind, a_kind, ExpAt, symbol_at, cons_at, ExpsAt, ConditionAt, eqa_at, consp_at, TermAt, call_at, if_at, result_at, ParamsAt, DefAt, define_at, DefsAt, ProgramAt}
 use Rattle.syntax.specs.Twins.Standing as at
 use Rattle.syntax.proofs.Tracks.{token_at}
-use Rattle.syntax.proofs.ReadParts.{Part, Given, given, Taken, taken, Both, both, Either, left, right, Items, done, item, Wrong, never, After, Reads, read_as, give_reads, take_reads, bind_reads, then_reads, wrong_reads, choose_reads, up_to_reads}
+use Rattle.syntax.proofs.ReadParts.{Part, Given, given, given_as, Taken, taken, Both, both, Either, left, right, Items, done, item, Wrong, never, After, Reads, read_as, give_reads, take_reads, bind_reads, then_reads, wrong_reads, choose_reads, up_to_reads}
 
 -- what the tests of a taken token say
 fit_is : (b : Bool) → fit_if b ≡ fits → b ≡ true
@@ -46,6 +46,11 @@ exp_roomier (cons_at o w c d e) = cons_at o w (exp_roomier c) (exp_roomier d) e
 -- a fixed word, and a word of a kind
 pub data Word (ts : List Token) (w : String) (i : ℕ) : Token → ℕ → Type 0 where
   word : WordAt (token_at ts) (length ts) w i → Word ts w i (token_at ts i) (i + 1)
+
+-- what holds behind a closing word
+closed_as : {ts : List Token} {w : String} {A : Type 0} {a b : A} {m k : ℕ} (P : A → ℕ → Type 0) → Both (Word ts w) (λ v. Given a) m b k →
+    (WordAt (token_at ts) (length ts) w m → P a (m + 1)) → P b k
+closed_as P (both v r (word z) g) f = given_as P g (f z)
 
 data Name (ts : List Token) (kind : Kind) (i : ℕ) : Token → ℕ → Type 0 where
   name : NameAt (token_at ts) (length ts) kind i → Name ts kind i (token_at ts i) (i + 1)
@@ -122,7 +127,7 @@ module _ {ts : List Token} where
 
   cons_at_lem : {text : Text} {room i : ℕ} {c : SExp} {k : ℕ} → WordAt (token_at ts) (length ts) "(" i → Cons ts text (token_at ts i).at room (i + 1) c k →
       Exp ts text (suc room) i c k
-  cons_at_lem o (both w j (word x) (both c k p (both d m q (both v r (word y) given)))) = cons_at o x (simp add_assoc at p) q y
+  cons_at_lem {text = text} {room = room} {i = i} o (both w j (word x) (both c k p (both d m q (both v r (word y) g)))) = given_as (Exp ts text (suc room) i) g (cons_at o x (simp add_assoc at p) q y)
 
   tree_reads : {m : Reader SExp} (text : Text) → Reads ts m (Leaf ts text) → (room : ℕ) → Reads ts (grammar.tree m room) (Exp ts text room)
   unfolding grammar.tree
@@ -161,6 +166,10 @@ exps_roomier (at.ExpsAt.more_at b x xs) = at.ExpsAt.more_at b (exp_roomier x) (e
 data Args (ts : List Token) (room i : ℕ) : List SExp → ℕ → Type 0 where
   args : {cs : List SExp} {k : ℕ} → WordAt (token_at ts) (length ts) "[" i → Exps ts of_program "]" room (i + 1) cs k → Args ts room i cs (k + 1)
 
+args_as : {ts : List Token} {room i : ℕ} {cs : List SExp} {k : ℕ} (P : List SExp → ℕ → Type 0) → Args ts room i cs k →
+    ((m : ℕ) → WordAt (token_at ts) (length ts) "[" i → Exps ts of_program "]" room (i + 1) cs m → P cs (m + 1)) → P cs k
+args_as P (args {k = m} x y) f = f m x y
+
 -- the two conditions, behind the bracket
 abbrev Eqa : List Token → ℕ → Part SCondition
 Eqa ts room = Both (Word ts "eqa?") (λ w. Both (Exp ts of_program room) (λ c. Both (Exp ts of_program room) (λ d. Given (eqa_s c d))))
@@ -180,7 +189,7 @@ module _ {ts : List Token} where
   args_reads (suc room) = read_as on (then_reads (the_reads "[") (bind_reads (up_to_reads "]" refl (expr_reads room)) (λ cs. then_reads (the_reads "]") (give_reads cs))))
     where
       on : (i : ℕ) (cs : List SExp) (k : ℕ) → Both (Word ts "[") (λ w. Both (Items ts "]" (Exp ts of_program room)) (λ cs. Both (Word ts "]") (λ v. Given cs))) i cs k → Args ts (suc room) i cs k
-      on i cs k (both w j (word x) (both ds m y (both v p (word z) given))) = args x (exps_roomier (items_at y))
+      on i cs k (both w j (word x) (both ds m y (both v p (word z) g))) = given_as (Args ts (suc room) i) g (args x (exps_roomier (items_at y)))
 
   condition_reads : (room : ℕ) → Reads ts (grammar.condition room) (Condition ts room)
   condition_reads zero = read_as (λ i q k x. elim x [ both w j y z ↦ never (λ j q k. Condition ts zero i q k) j q k z ]) (then_reads (the_in_reads 0 "(") wrong_reads)
@@ -190,10 +199,11 @@ module _ {ts : List Token} where
       bind_reads (word_reads aname) (λ x. give_reads (consp_s c h t x)))))))) (λ q. then_reads (the_reads ")") (give_reads q))))
     where
       on : (i : ℕ) (q : SCondition) (k : ℕ) → Both (Word ts "(") (λ w. Both (Either ts (is "eqa?") (Eqa ts room) (Consp ts room)) (λ q. Both (Word ts ")") (λ v. Given q))) i q k → Condition ts (suc room) i q k
-      on i q k (both w j (word o) (both r m (left l b (both v p (word e) (both c g x (both d h y given)))) (both u s (word z) given))) =
-          eqa_at o e (simp add_assoc at (exp_roomier x)) (exp_roomier y) z
-      on i q k (both w j (word o) (both r m (right b (both v p (word e) (both c g x (both d h (stand hd) (both f f' (stand tl) (both a a' (stand av) given)))))) (both u s (word z) given))) =
-          simp add_assoc (consp_at o e (simp add_assoc at (exp_roomier x)) hd tl (simp add_assoc at av) (simp add_assoc at z))
+      on i q k (both w j (word o) (both r m (left l b (both v p (word e) (both c g x (both d h y gv)))) rest)) =
+          given_as (λ r m. Both (Word ts ")") (λ v. Given r) m q k → Condition ts (suc room) i q k) gv (λ s. closed_as (Condition ts (suc room) i) s (λ z. eqa_at o e (simp add_assoc at (exp_roomier x)) (exp_roomier y) z)) rest
+      on i q k (both w j (word o) (both r m (right b (both v p (word e) (both c g x (both d h (stand hd) (both f f' (stand tl) (both a a' (stand av) gv)))))) rest)) =
+          given_as (λ r m. Both (Word ts ")") (λ v. Given r) m q k → Condition ts (suc room) i q k) gv (λ s. closed_as (Condition ts (suc room) i) s
+          (λ z. simp add_assoc (consp_at o e (simp add_assoc at (exp_roomier x)) hd tl (simp add_assoc at av) (simp add_assoc at z)))) rest
 
 -- the three forms of a term behind its bracket
 abbrev Call : List Token → ℕ → Part STerm
@@ -216,18 +226,19 @@ module _ {ts : List Token} where
 
   pub term_reads : (room : ℕ) → Reads ts (grammar.term room) (Term ts room)
   unfolding grammar.term
-  term_reads zero = read_as (λ i t k x. elim x [ both c j y given ↦ result_at y ]) (bind_reads (expr_reads zero) (λ c. give_reads (result_s c)))
+  term_reads zero = read_as (λ i t k x. elim x [ both c j y g ↦ given_as (Term ts zero i) g (result_at y) ]) (bind_reads (expr_reads zero) (λ c. give_reads (result_s c)))
   term_reads (suc room) = read_as on (choose_reads (is "(") refl (bind_reads (the_reads "(") (form_reads room (λ us. grammar.term room us) (term_reads room)))
       (bind_reads leaf_reads (λ c. give_reads (result_s c))))
     where
       on : (i : ℕ) (t : STerm) (k : ℕ) → Either ts (is "(") (Both (Word ts "(") (λ o. Either ts (is "call") (Call ts room) (Either ts (is "if") (If ts room) (Result ts o.at room))))
           (Both (Leaf ts of_program) (λ c. Given (result_s c))) i t k → Term ts (suc room) i t k
-      on i t k (left l b (both o j (word p) (left m d (both w g (word q) (both f h (stand x) (both cs y (args z e) (both v r (word u) given))))))) =
-          simp add_assoc (call_at p q (simp add_assoc at x) (simp add_assoc at z) (simp add_assoc at e) u)
-      on i t k (left l b (both o j (word p) (right d (left m e (both w g (word q) (both c h x (both s y sx (both u z ux (both v r (word a) given))))))))) =
-          if_at p q (simp add_assoc at x) sx ux a
-      on i t k (left l b (both o j (word p) (right d (right e (both c g x given))))) = result_at (cons_at_lem p x)
-      on i t k (right b (both c j x given)) = result_at (leaf_at_lem b x)
+      on i t k (left l b (both o j (word p) (left m d (both w g (word q) (both f h (stand x) (both cs y a rest)))))) =
+          args_as (λ cs y. Both (Word ts ")") (λ v. Given (call_s f cs)) y t k → Term ts (suc room) i t k) a (λ n z e s. closed_as (Term ts (suc room) i) s
+          (λ u. simp add_assoc (call_at p q (simp add_assoc at x) (simp add_assoc at z) (simp add_assoc at e) u))) rest
+      on i t k (left l b (both o j (word p) (right d (left m e (both w g (word q) (both c h x (both s y sx (both u z ux (both v r (word a) gv))))))))) =
+          given_as (Term ts (suc room) i) gv (if_at p q (simp add_assoc at x) sx ux a)
+      on i t k (left l b (both o j (word p) (right d (right e (both c g x gv))))) = given_as (Term ts (suc room) i) gv (result_at (cons_at_lem p x))
+      on i t k (right b (both c j x gv)) = given_as (Term ts (suc room) i) gv (result_at (leaf_at_lem b x))
 
 -- one parameter
 data Parameter (ts : List Token) (i : ℕ) : SParam → ℕ → Type 0 where
@@ -279,8 +290,8 @@ module _ {ts : List Token} where
     where
       on : (i : ℕ) (d : SDef) (k : ℕ) → Both (Word ts "(") (λ w. Both (Word ts "define") (λ v. Both (Standing ts plain) (λ f. Both (Word ts "[") (λ u. Both (Params ts 16) (λ xs. Both (Word ts "]")
           (λ w'. Both (Term ts 63) (λ t. Both (Word ts ")") (λ v'. Given (record { name = f; params = xs; body = t }))))))))) i d k → Definition ts i d k
-      on i d k (both w a (word x) (both v b (word y) (both f c (stand z) (both u e (word o) (both xs g (params ps l) (both w' h (word q) (both t m r (both v' s (word last) given)))))))) =
-          simp add_assoc (define_at x y (simp add_assoc at z) (simp add_assoc at o) (simp add_assoc at ps) l r last)
+      on i d k (both w a (word x) (both v b (word y) (both f c (stand z) (both u e (word o) (both xs g (params ps l) (both w' h (word q) (both t m r (both v' s (word last) gv)))))))) =
+          given_as (Definition ts i) gv (simp add_assoc (define_at x y (simp add_assoc at z) (simp add_assoc at o) (simp add_assoc at ps) l r last))
 
   definitions_reads : (room : ℕ) → Reads ts (grammar.definitions room) (Definitions ts room)
   unfolding grammar.definitions
@@ -293,7 +304,7 @@ module _ {ts : List Token} where
     where
       on : (i : ℕ) (ds : List SDef) (k : ℕ) → Either ts grammar.is_end (Given []) (Both (Definition ts) (λ d. Both (Definitions ts room) (λ ds. Given (d ∷ ds)))) i ds k → Definitions ts (suc room) i ds k
       on i ds k (left l b given) = definitions (at.DefsAt.none_at (record { below = l; key = b })) (omega arith)
-      on i ds k (right b (both x j y (both ys m (definitions z l) given))) = definitions (at.DefsAt.more_at b y z) (omega arith)
+      on i ds k (right b (both x j y (both ys m (definitions z l) gv))) = given_as (Definitions ts (suc room) i) gv (definitions (at.DefsAt.more_at b y z) (omega arith))
 
 -- a program that was read stands in its tokens
 pub program_stands : (ts : List Token) (s : SProg) (rest : List Token) → grammar.program ts ≡ ok (s, rest) → ProgramAt (token_at ts) (length ts) s
@@ -304,4 +315,4 @@ program_stands ts s rest e = on (whole.reads 0 (omega arith) s rest e).stands
     whole = bind_reads (definition_reads 1) (λ d. bind_reads (definitions_reads 63) (λ ds. give_reads (record { main = d; others = ds })))
 
     on : {s : SProg} {k : ℕ} → Both (Definition ts) (λ d. Both (Definitions ts 63) (λ ds. Given (record { main = d; others = ds }))) 0 s k → ProgramAt (token_at ts) (length ts) s
-    on (both d j x (both ds k (definitions y l) given)) = record { second = j; end = k; main = x; others = y; few = l }
+    on (both d j x (both ds k (definitions y l) gv)) = given_as (λ s k. ProgramAt (token_at ts) (length ts) s) gv (record { second = j; end = k; main = x; others = y; few = l })

@@ -1,10 +1,10 @@
 -- Numbers written one after the other, zeros behind them.
-use Prim.Native.Nat.{ℕ, zero, suc, ◌+◌, ◌-◌, ◌≤◌, ◌<◌}
+use Prim.Native.Nat.{ℕ, zero, suc, ◌+◌, ◌-◌, ◌<◌}
 use mathlib.Core.Path.{◌≡◌, refl, ap, ◌∙◌, sym}
 use mathlib.Core.List.{List, [], ◌∷◌, ◌++◌, append_assoc, append-nil}
 use native.Mathlib.Nat.{not-suc-le-zero, le_of_suc-le-suc}
 use native.Mathlib.Omega.{arith}
-use lib.ListN.{length, get_or, set, take, drop, replicate, length-append, drop_of_length-le, get_or-replicate}
+use lib.ListN.{length, get_or, set, drop, replicate, length-append, drop_of_length-le, get_or-replicate}
 use lib.Seq.{set-append_seam, drop-cons}
 use Rattle.telling.specs.Numbers.{padded}
 

@@ -1,13 +1,13 @@
 -- The way to a node of the tree is one: what is left of it behind a node on it, and the node of a decision.
-use Prim.Native.Nat.{ℕ, suc, ◌+◌, ◌≤◌}
+use Prim.Native.Nat.{ℕ, suc}
 use mathlib.Core.Path.{◌≡◌, refl, ap, subst, ◌∙◌, sym as inv}
 use mathlib.Core.Bool.{Bool, true, false}
 use mathlib.Core.List.{List, [], ◌∷◌, ◌++◌}
-use mathlib.Core.Option.{Option, none, some}
+use mathlib.Core.Option.{Option, some}
 use native.Mathlib.Omega.{arith}
 use Rattle.language.specs.Program.{Prog}
 use Rattle.semantics.specs.Configuration.{Configuration}
-use Rattle.semantics.specs.Trace.{Successors, terminal, called, branches, successors}
+use Rattle.semantics.specs.Trace.{Successors, called, branches, successors}
 use Rattle.semantics.specs.Tree.{Node, after_call, after_decision}
 use Rattle.semantics.proofs.Backtrack.{Choice, trail_of}
 use Rattle.semantics.proofs.Reaching.{branch_of, Reaches, here, by_call, by_decision}

@@ -1,5 +1,5 @@
 -- The path in cells is the path of semantics/proofs/Backtrack.antt.
-use Prim.Native.Nat.{ℕ, zero, suc, ◌+◌, ◌-◌, ◌≤◌, ◌<◌}
+use Prim.Native.Nat.{ℕ, suc, ◌+◌, ◌-◌, ◌<◌}
 use mathlib.Core.Path.{◌≡◌, refl, ap, subst, ◌∙◌, sym as inv}
 use mathlib.Core.Bool.{Bool, true, false, cond}
 use mathlib.Core.List.{List, [], ◌∷◌, ◌++◌, append_assoc}
@@ -7,7 +7,7 @@ use native.Mathlib.Omega.{arith}
 use lib.Dec.{leb}
 use lib.ListN.{length, get_or, set, drop, length-append}
 use lib.Seq.{get_or_at, set_at, drop-cons}
-use borrow.Author.Tests.{le-leb, lt-leb, eq-eqb, ne_eqb}
+use borrow.Author.Tests.{ne_eqb}
 use Rattle.semantics.proofs.Backtrack.{Choice, trail_of, backtrack_to, backtrack}
 use Rattle.trails.specs.Twins.TrailCells.{choice_cell, taken_at, pending_at, latest_pending, path_left, backtracked}
 

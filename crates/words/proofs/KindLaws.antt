@@ -1,15 +1,15 @@
 -- The first bytes of a word decide its kind, and the first the fixed words that it is compared with.
-use Prim.Native.Nat.{ℕ, zero, suc, ◌+◌}
+use Prim.Native.Nat.{ℕ, suc}
 use mathlib.Core.Path.{◌≡◌, refl, ap, subst, ◌∙◌, sym}
 use mathlib.Core.Bool.{Bool, true, false, cond, ◌&&◌}
-use mathlib.Core.List.{List, [], ◌∷◌}
+use mathlib.Core.List.{[], ◌∷◌}
 use native.Mathlib.Omega.{arith}
 use lib.Dec.{eqb}
 use lib.ListN.{length, get_or}
 use borrow.Author.Tests.{ne_eqb}
 use Rattle.language.specs.Bytes.{txt}
 use Rattle.language.specs.Words.{Word, same}
-use Rattle.language.specs.Tokens.{Kind, symbol, ename, aname, evariable, avariable, plain, tag, kind_of, key_of}
+use Rattle.language.specs.Tokens.{ename, aname, evariable, avariable, plain, tag, kind_of, key_of}
 
 -- two bytes are enough for the kind
 kind_two : (w : Word) → kind_of w ≡ kind_of (get_or w 0 0 ∷ get_or w 1 0 ∷ [])

@@ -1,5 +1,5 @@
 -- Laws of words judged by index.
-use Prim.Native.Nat.{ℕ, zero, suc, ◌+◌, ◌-◌, ◌*◌, ◌/◌, ◌%◌, ◌≤◌, ◌<◌}
+use Prim.Native.Nat.{ℕ, suc, ◌+◌, ◌-◌, ◌*◌, ◌/◌, ◌%◌, ◌≤◌, ◌<◌}
 use mathlib.Core.Path.{◌≡◌, refl, ap, ◌∙◌, sym}
 use mathlib.Core.Bool.{Bool, true, false, cond, ◌&&◌, ◌||◌, not}
 use mathlib.Core.List.{List, [], ◌∷◌}
@@ -7,11 +7,11 @@ use native.Mathlib.Omega.{arith}
 use native.Mathlib.Numerals.{add-one}
 use native.Mathlib.Nat.{mod-mod, mod-eq_of_lt, mod-add-div, add-mul-mod_self_left}
 use lib.Dec.{eqb, leb}
-use borrow.Author.Tests.{eq-eqb, ne_eqb, le-leb, lt-leb, eqb-true, eqb-false}
+use borrow.Author.Tests.{eq-eqb, ne_eqb, le-leb, lt-leb, eqb-false}
 use lib.ListN.{length, drop, get_or, length-drop, drop_of_length-le}
 use lib.Seq.{drop-cons, get_or-drop}
 use Rattle.language.specs.Bytes.{byte_kind, in_name, is_digit, within}
-use Rattle.language.specs.Words.{Word, same, begins, all, Fit, fits, broken, long, is_name, name_fit, is_numeral, numeral_fit, number_fit, value_from, value}
+use Rattle.language.specs.Words.{Word, same, begins, all, fits, broken, long, name_fit, is_numeral, numeral_fit, number_fit, value_from, value}
 use Rattle.words.specs.Twins.Cutting.{scan, scan_at}
 use Rattle.words.specs.Twins.Judged.{value_cell, hash_from}
 

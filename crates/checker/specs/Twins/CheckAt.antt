@@ -1,7 +1,7 @@
 -- The check of a program by position: what a check comes to that builds nothing and keeps an index into the tokens of a text that was
 -- read without refusal. A function of the code that checks has one of these for its contract.
 -- syntax/proofs/ProgramLaws.antt: they find what language/specs/ProgramCheck.antt finds.
-use Rattle.std.specs.Prelude.{ℕ, zero, suc, ◌+◌, ◌-◌, ◌<◌, ◌≡◌, Bool, true, false, cond, ◌&&◌, ◌||◌, not, List, [], ◌∷◌, eqb, leb, ltb, length, get_or, set, replicate}
+use Rattle.std.specs.Prelude.{ℕ, zero, suc, ◌+◌, ◌-◌, ◌<◌, ◌≡◌, Bool, true, false, cond, ◌&&◌, ◌||◌, not, List, eqb, leb, ltb, length, get_or, set, replicate}
 use Prim.Native.String.{String}
 use Rattle.language.specs.Bytes.{txt}
 use Rattle.language.specs.Tokens.{Kind, symbol, ename, aname, tag, key_of}

@@ -1,5 +1,5 @@
 -- The check by position (specs/twins/CheckAt.antt) of stored tokens, n of them: what the functions of the code come to.
-use Rattle.std.specs.Prelude.{ℕ, ◌-◌, Bool, List}
+use Rattle.std.specs.Prelude.{ℕ, Bool, List}
 use Rattle.checker.specs.Twins.StoredAt.{key_at, tag_at, num_at, at_at}
 use Rattle.checker.specs.Twins.CheckAt as at
 use Rattle.checker.specs.Twins.CheckAt.{names}

@@ -1,12 +1,12 @@
 -- Tokens in storage: three cells a token, in three lists, and the readers over them.
-use Rattle.std.specs.Prelude.{ℕ, zero, suc, ◌+◌, ◌-◌, ◌*◌, ◌/◌, ◌%◌, Bool, true, false, cond, List, [], ◌∷◌, map, leb, ltb, get_or}
+use Rattle.std.specs.Prelude.{ℕ, ◌-◌, cond, List, ltb, get_or}
 use Rattle.std.proofs.Math.Dec.{eqb}
-use Rattle.language.specs.Words.{Fit, fits, broken, long, many}
-use Rattle.language.specs.Tokens.{Kind, symbol, ename, aname, evariable, avariable, plain, tag, Token}
+use Rattle.language.specs.Words.{broken}
+use Rattle.language.specs.Tokens.{ename, aname, tag, Token}
 use Rattle.language.specs.Reader.{is, fit_if, roomed}
 use Rattle.words.specs.Twins.Marks.{decode}
 use Rattle.words.specs.declared.got.Got.{Got}
-use Rattle.words.specs.declared.got.Got.TheVariants.{Past, Refused}
+use Rattle.words.specs.declared.got.Got.TheVariants.{Refused}
 use Rattle.grammar.specs.Twins.Positions.{nothing, take_p, seq_p, wrong_p, choose_p, many_p, the_p, word_p, tree_p, expr_p, args_p, condition_p, term_p, parameter_p, parameters_p, definition_p, definitions_p, program_p, sides_p, end_p, job_p}
 
 -- past the end of the storage stands what no reader passes: no fixed word, plain, broken, one too many

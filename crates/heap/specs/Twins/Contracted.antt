@@ -1,5 +1,5 @@
 -- A contraction of entries, for cells of any content.
-use Rattle.std.specs.Prelude.{ℕ, zero, suc, ◌+◌, ◌-◌, ◌*◌, ◌%◌, min, Bool, true, false, cond, List, eqb, get_or, set}
+use Rattle.std.specs.Prelude.{ℕ, zero, suc, ◌+◌, ◌-◌, ◌*◌, ◌%◌, min, cond, List, eqb, get_or, set}
 use Rattle.sets.specs.Twins.Fill.{FillAnswer, fill_answer}
 use Rattle.sets.specs.declared.fill.Filled.{Filled}
 use Rattle.sets.specs.declared.fill.Filled.TheVariants.{Done, Over}

@@ -1,7 +1,7 @@
 -- A table's words by their hash, so that a search passes the entries of one bucket alone. From `base` on stand 256 cells, those of the buckets, each
 -- with the newest entry of its own; behind them each entry's cell has the one before it in its bucket. An entry stands there as its number and one, 0
 -- for none.
-use Rattle.std.specs.Prelude.{ℕ, zero, suc, ◌+◌, ◌*◌, ◌%◌, ◌<◌, ◌≤◌, Bool, true, false, cond, ◌≡◌, List, eqb, get_or, set}
+use Rattle.std.specs.Prelude.{ℕ, zero, suc, ◌+◌, ◌*◌, ◌%◌, ◌<◌, ◌≤◌, Bool, cond, ◌≡◌, List, eqb, get_or, set}
 
 abbrev pub bucket_of : List ℕ → ℕ → ℕ
 bucket_of table k = get_or table (2 * k) 0 % 256

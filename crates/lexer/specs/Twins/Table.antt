@@ -1,5 +1,5 @@
 -- A table of words in cells: of each entry the hash and the offset of its first standing.
-use Rattle.std.specs.Prelude.{ℕ, zero, suc, ◌+◌, ◌-◌, ◌*◌, Bool, true, false, cond, ◌&&◌, List, [], ◌∷◌, eqb, ltb, get_or, set}
+use Rattle.std.specs.Prelude.{ℕ, zero, suc, ◌+◌, ◌-◌, ◌*◌, Bool, true, false, cond, ◌&&◌, List, eqb, ltb, get_or, set}
 use Rattle.language.specs.Words.{Word, same}
 use Rattle.words.specs.Twins.Cutting.{word_at}
 

@@ -1,5 +1,5 @@
 -- Restrictions over cells: what `add`, `simplify` and `bind` do.
-use Rattle.std.specs.Prelude.{ℕ, zero, suc, ◌+◌, ◌*◌, ◌/◌, ◌%◌, min, ◌≡◌, Bool, true, false, cond, List, [], ◌∷◌, eqb, leb, length, get_or, set}
+use Rattle.std.specs.Prelude.{ℕ, zero, suc, ◌+◌, ◌*◌, ◌/◌, ◌%◌, min, Bool, true, false, cond, List, [], ◌∷◌, eqb, leb, length, get_or, set}
 use Rattle.sets.specs.Twins.Copying.{stands_in}
 use Rattle.sets.specs.Twins.Fill.{renamed}
 use Rattle.restrictions.specs.declared.restriction.Kind.{Kind}

@@ -1,5 +1,5 @@
 -- Runs of a heap, and what is written behind them, for cells of any content. Nothing here asks for a length.
-use Rattle.std.specs.Prelude.{ℕ, zero, suc, ◌+◌, ◌-◌, ◌%◌, min, Bool, true, false, cond, not, List, [], ◌∷◌, eqb, ltb, leb, get_or, set}
+use Rattle.std.specs.Prelude.{ℕ, zero, suc, ◌+◌, ◌-◌, ◌%◌, min, Bool, true, false, cond, not, List, [], ◌∷◌, eqb, ltb, leb, get_or}
 use Rattle.std.proofs.lemmas.List.Edits.{sets}
 use Rattle.codes.specs.Twins.Outcomes.{unmoved}
 use Rattle.codes.specs.declared.outcome.Replaced.{Replaced}

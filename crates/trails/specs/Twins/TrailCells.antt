@@ -1,5 +1,5 @@
 -- The path in cells: what each function of trail.rt answers and leaves.
-use Rattle.std.specs.Prelude.{ℕ, zero, suc, ◌+◌, ◌-◌, ◌%◌, min, ◌≡◌, Bool, true, false, cond, List, eqb, leb, get_or, set}
+use Rattle.std.specs.Prelude.{ℕ, zero, suc, ◌+◌, ◌-◌, ◌%◌, min, Bool, true, false, cond, List, eqb, leb, get_or, set}
 
 abbrev pub choice_cell : Bool → Bool → ℕ
 choice_cell true true = 3

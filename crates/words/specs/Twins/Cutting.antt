@@ -1,5 +1,5 @@
 -- A text cut into words by index: where a word begins and ends. proofs/CutByIndex.antt: these are the pieces of `cut`.
-use Rattle.std.specs.Prelude.{ℕ, zero, suc, ◌+◌, ◌-◌, Bool, true, false, cond, not, List, [], ◌∷◌, eqb, leb, ltb, length, take, drop, get_or}
+use Rattle.std.specs.Prelude.{ℕ, ◌+◌, ◌-◌, Bool, true, false, cond, not, List, [], ◌∷◌, leb, ltb, length, take, drop, get_or}
 use Rattle.language.specs.Bytes.{Byte, blank, bracket, digit, letter, mark, outside, byte_kind, is_blank, is_digit, in_name, in_word, is_outside}
 use Rattle.words.specs.declared.bytes.Byte.{Byte as CodeByte}
 use Rattle.words.specs.declared.bytes.Byte.TheVariants.{Blank, Bracket, Digit, Letter, Mark, Outside}

@@ -1,5 +1,5 @@
 -- What the code makes of a word: its value in a cell, its hash, the token that it is.
-use Rattle.std.specs.Prelude.{ℕ, zero, suc, ◌+◌, ◌-◌, ◌*◌, ◌%◌, Bool, true, false, cond, ◌&&◌, ◌||◌, not, List, [], ◌∷◌, eqb, leb, ltb, length, take, drop, get_or}
+use Rattle.std.specs.Prelude.{ℕ, ◌+◌, ◌*◌, ◌%◌, Bool, true, false, [], ◌∷◌}
 use Rattle.language.specs.Words.{Word, value}
 use Rattle.language.specs.Tokens.{Text, of_program, of_job}
 use Rattle.words.specs.Twins.Marks.{cell_of}

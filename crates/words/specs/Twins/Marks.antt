@@ -1,7 +1,7 @@
 -- A token in cells: a mark holds its key, its kind, how it fits and whether it is one too many; its number and its offset have a
 -- cell each. (A numeral of a job may be larger than a cell: its number is kept modulo 65,536, and who needs it reads it again from the
 -- text.)
-use Rattle.std.specs.Prelude.{ℕ, zero, suc, ◌+◌, ◌*◌, ◌/◌, ◌%◌, Bool, true, false, cond, eqb, leb, ltb}
+use Rattle.std.specs.Prelude.{ℕ, ◌+◌, ◌*◌, ◌/◌, ◌%◌, Bool, true, false, cond, eqb, leb, ltb}
 use Rattle.language.specs.Words.{Fit, fits, broken, long, many}
 use Rattle.language.specs.Tokens.{Kind, symbol, ename, aname, evariable, avariable, plain, tag, Token}
 

@@ -1,11 +1,7 @@
 use Prim.Native.Nat.{◌-◌, ◌/◌, ◌≤◌, min}
-use mathlib.Core.Path.{◌≡◌, refl, ◌∙◌}
-use mathlib.Core.Logic.{⊎_elim}
-use native.Mathlib.Omega.{arith}
-use lib.ListN.{length, length-set}
+use mathlib.Core.Path.{◌≡◌}
+use lib.ListN.{length}
 use Rattle.restrictions.specs.Twins.Restricting.{simplify_from, simplify_cells}
-use Rattle.restrictions.proofs.RestrictionTurns.{simplify_turn, simplify_end}
-use borrow.Author.Rules.{rules}
 use Rattle.restrictions.proofs.restriction.simplify.Given as goal
 
 abbrev pub invariant-loop-i : goal.invariant-loop-i

@@ -1,11 +1,7 @@
-use Prim.Native.Nat.{◌+◌, ◌-◌, ◌*◌, ◌/◌, ◌≤◌, min}
+use Prim.Native.Nat.{◌-◌, ◌*◌, ◌/◌, ◌≤◌, min}
 use mathlib.Core.Path.{◌≡◌}
-use mathlib.Core.Logic.{⊎_elim}
-use native.Mathlib.Omega.{arith}
-use lib.ListN.{length, drop, get_or}
+use lib.ListN.{length, drop}
 use Rattle.restrictions.specs.Twins.Restricting.{stands_cells}
-use Rattle.restrictions.proofs.RestrictionTurns.{either_written, either_turned, either_none, stands_turn, stands_end}
-use borrow.Author.Rules.{rules}
 use Rattle.restrictions.proofs.restriction.stands.Given as goal
 
 abbrev pub invariant-loop-i : goal.invariant-loop-i

@@ -1,14 +1,7 @@
 use Prim.Native.Nat.{◌-◌, ◌≤◌, min}
-use mathlib.Core.Path.{◌≡◌, sym}
-use mathlib.Core.Logic.{⊎_elim}
-use native.Mathlib.Omega.{arith}
-use native.Mathlib.Numerals.{add-one}
-use lib.ListN.{length, get_or, length-set}
-use lib.Dec.{eqb}
-use mathlib.Core.Bool.{cond}
-use borrow.Author.Tests.{eq-eqb, ne_eqb}
+use mathlib.Core.Path.{◌≡◌}
+use lib.ListN.{length}
 use Rattle.sets.specs.Twins.Fill.{renamed}
-use Rattle.sets.proofs.Turns.{renamed_none, renamed_at, renamed_next, renamed_min}
 use Rattle.sets.proofs.fill.rename.Given as goal
 
 abbrev pub invariant-loop-i : goal.invariant-loop-i

@@ -1,10 +1,6 @@
-use Prim.Native.Nat.{◌-◌, min}
-use mathlib.Core.Path.{◌≡◌, ◌∙◌, sym}
+use mathlib.Core.Path.{◌∙◌, sym}
 use native.Mathlib.Omega.{arith}
-use lib.ListN.{length}
-use Rattle.sets.specs.Twins.Copying.{part, any_cell}
 use Rattle.sets.proofs.Turns.{any_here, any_later, any_none}
-use borrow.Author.Rules.{rules}
 use Rattle.sets.proofs.tree.stands_in.Goals as goal
 
 pub returns-then-s-i : goal.returns-then-s-i

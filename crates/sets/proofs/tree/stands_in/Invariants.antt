@@ -1,9 +1,7 @@
 use Prim.Native.Nat.{◌-◌, min}
-use mathlib.Core.Path.{◌≡◌, ◌∙◌, sym}
-use native.Mathlib.Omega.{arith}
+use mathlib.Core.Path.{◌≡◌}
 use lib.ListN.{length}
 use Rattle.sets.specs.Twins.Copying.{part, any_cell}
-use Rattle.sets.proofs.Turns.{any_here, any_later, any_none}
 use Rattle.sets.proofs.tree.stands_in.Given as goal
 
 abbrev pub invariant-loop-i : goal.invariant-loop-i

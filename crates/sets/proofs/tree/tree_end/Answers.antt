@@ -1,11 +1,8 @@
-use Prim.Native.Nat.{◌+◌, ◌-◌, ◌≤◌}
-use mathlib.Core.Path.{◌≡◌, refl}
-use mathlib.Core.Logic.{⊎_elim}
+use mathlib.Core.Path.{refl}
 use native.Mathlib.Omega.{arith}
-use lib.ListN.{length, drop}
-use Rattle.sets.specs.Twins.Copying.{walk_trees, tree_end}
+use lib.ListN.{drop}
+use Rattle.sets.specs.Twins.Copying.{tree_end}
 use Rattle.sets.proofs.Turns.{walk_none, walk_end, walk_pair, walk_leaf, walk_four}
-use borrow.Author.Rules.{rules}
 use Rattle.sets.proofs.tree.tree_end.Goals as goal
 use Rattle.sets.proofs.tree.tree_end.Goals.{then-s-i-eq-PAIR, else-s-i-eq-PAIR}
 
@@ -29,8 +26,8 @@ loop-i-preserved c =
     let in-s = c.loop-i-test.true in
     let some = c.if-need-eq0.false in
     elim c.if-s-i-eq-PAIR.branch [
-      then-s-i-eq-PAIR w ↦ (omega arith, omega (arith, walk_pair s c.loop-i.i in-s c.loop-i.need c.if-s-i-eq-PAIR.need some w.if-s-i-eq-PAIR.true w.need-is))
-    | else-s-i-eq-PAIR w ↦ (omega arith, omega (arith, walk_leaf s c.loop-i.i in-s c.loop-i.need c.if-s-i-eq-PAIR.need some w.if-s-i-eq-PAIR.false w.need-is))
+      | then-s-i-eq-PAIR w ↦ (omega arith, omega (arith, walk_pair s c.loop-i.i in-s c.loop-i.need c.if-s-i-eq-PAIR.need some w.if-s-i-eq-PAIR.true w.need-is))
+      | else-s-i-eq-PAIR w ↦ (omega arith, omega (arith, walk_leaf s c.loop-i.i in-s c.loop-i.need c.if-s-i-eq-PAIR.need some w.if-s-i-eq-PAIR.false w.need-is))
     ]
 
 pub returns : goal.returns

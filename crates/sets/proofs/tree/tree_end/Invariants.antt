@@ -1,10 +1,7 @@
 use Prim.Native.Nat.{◌+◌, ◌-◌, ◌≤◌}
-use mathlib.Core.Path.{◌≡◌, refl}
-use mathlib.Core.Logic.{⊎_elim}
-use native.Mathlib.Omega.{arith}
+use mathlib.Core.Path.{◌≡◌}
 use lib.ListN.{length, drop}
-use Rattle.sets.specs.Twins.Copying.{walk_trees, tree_end}
-use Rattle.sets.proofs.Turns.{walk_none, walk_end, walk_pair, walk_leaf, walk_four}
+use Rattle.sets.specs.Twins.Copying.{walk_trees}
 use Rattle.sets.proofs.tree.tree_end.Given as goal
 
 abbrev pub invariant-loop-i : goal.invariant-loop-i

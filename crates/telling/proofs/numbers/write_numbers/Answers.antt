@@ -1,16 +1,11 @@
-use Prim.Native.Nat.{ℕ, ◌-◌, ◌≤◌, zero-le}
-use mathlib.Core.Path.{◌≡◌, refl, ap, ◌∙◌, sym}
-use mathlib.Core.Bool.{false}
-use mathlib.Core.List.{List, ◌++◌}
+use Prim.Native.Nat.{zero-le}
+use mathlib.Core.Path.{◌≡◌, refl, ◌∙◌, sym}
 use native.Mathlib.Nat.{le_antisymm}
 use native.Mathlib.Numerals.{add-one-le}
 use native.Mathlib.Omega.{arith}
-use lib.Dec.{eqb}
-use lib.ListN.{length, set, drop, get_or, length-set}
+use lib.ListN.{length, set, length-set}
 use borrow.Author.Tests.{eq-eqb, ne_eqb}
-use Rattle.telling.specs.Numbers.{padded}
 use Rattle.telling.proofs.NumberLaws.{padded_none, one_more, all_written}
-use borrow.Author.Rules.{rules}
 use Rattle.telling.proofs.numbers.write_numbers.Goals as goal
 
 pub returns-then-number-eq-SHORT : goal.returns-then-number-eq-SHORT

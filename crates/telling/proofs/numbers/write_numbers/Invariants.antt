@@ -1,16 +1,10 @@
-use Prim.Native.Nat.{ℕ, ◌-◌, ◌≤◌, zero-le}
-use mathlib.Core.Path.{◌≡◌, refl, ap, ◌∙◌, sym}
+use Prim.Native.Nat.{◌-◌, ◌≤◌}
+use mathlib.Core.Path.{◌≡◌}
 use mathlib.Core.Bool.{false}
-use mathlib.Core.List.{List, ◌++◌}
-use native.Mathlib.Nat.{le_antisymm}
-use native.Mathlib.Numerals.{add-one-le}
-use native.Mathlib.Omega.{arith}
+use mathlib.Core.List.{◌++◌}
 use lib.Dec.{eqb}
-use lib.ListN.{length, set, drop, get_or, length-set}
-use borrow.Author.Tests.{eq-eqb, ne_eqb}
+use lib.ListN.{length, drop}
 use Rattle.telling.specs.Numbers.{padded}
-use Rattle.telling.proofs.NumberLaws.{padded_none, one_more, all_written}
-use borrow.Author.Rules.{rules}
 use Rattle.telling.proofs.numbers.write_numbers.Given as goal
 
 abbrev pub invariant-loop-i : goal.invariant-loop-i

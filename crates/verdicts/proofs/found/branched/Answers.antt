@@ -1,5 +1,4 @@
 use Rattle.verdicts.specs.Twins.Found.{branched}
-use borrow.Author.Rules.{rules}
 use Rattle.verdicts.proofs.found.branched.Goals as goal
 
 pub returns : goal.returns

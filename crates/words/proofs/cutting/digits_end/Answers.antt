@@ -1,11 +1,6 @@
-use mathlib.Core.Path.{◌≡◌, refl, ap, ◌∙◌, sym}
-use mathlib.Core.Bool.{not}
-use Prim.Native.Nat.{◌-◌}
-use lib.ListN.{length}
-use Rattle.language.specs.Bytes.{byte_kind, is_blank, is_digit, in_name, in_word, is_outside}
-use Rattle.words.specs.Twins.Cutting.{scan_at}
+use mathlib.Core.Path.{refl, ◌∙◌, sym}
+use Rattle.language.specs.Bytes.{byte_kind, is_digit}
 use Rattle.words.proofs.CuttingLaws.{scan_on, scan_stop, scan_end}
-use borrow.Author.Rules.{rules}
 use Rattle.words.proofs.cutting.digits_end.Goals as goal
 
 pub loop-i-init : goal.loop-i-init

@@ -1,11 +1,8 @@
-use mathlib.Core.Path.{◌≡◌, refl, ap, ◌∙◌, sym}
-use mathlib.Core.Bool.{not}
+use mathlib.Core.Path.{◌≡◌}
 use Prim.Native.Nat.{◌-◌}
 use lib.ListN.{length}
-use Rattle.language.specs.Bytes.{byte_kind, is_blank, is_digit, in_name, in_word, is_outside}
+use Rattle.language.specs.Bytes.{byte_kind, in_word}
 use Rattle.words.specs.Twins.Cutting.{scan_at}
-use Rattle.words.proofs.CuttingLaws.{scan_on, scan_stop, scan_end}
-use borrow.Author.Rules.{rules}
 use Rattle.words.proofs.cutting.word_end.Given as goal
 
 abbrev pub invariant-loop-i : goal.invariant-loop-i

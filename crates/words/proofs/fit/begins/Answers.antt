@@ -1,9 +1,5 @@
-use mathlib.Core.Path.{◌≡◌, refl, ap, ◌∙◌, sym}
-use Prim.Native.Nat.{◌-◌}
-use lib.ListN.{length, drop}
-use Rattle.language.specs.Words.{begins}
+use mathlib.Core.Path.{refl, ◌∙◌, sym}
 use Rattle.words.proofs.WordLaws.{begins_on, begins_not, begins_short, begins_end}
-use borrow.Author.Rules.{rules}
 use Rattle.words.proofs.fit.begins.Goals as goal
 
 pub loop-i-init : goal.loop-i-init

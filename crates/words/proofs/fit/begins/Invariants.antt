@@ -1,9 +1,7 @@
-use mathlib.Core.Path.{◌≡◌, refl, ap, ◌∙◌, sym}
+use mathlib.Core.Path.{◌≡◌}
 use Prim.Native.Nat.{◌-◌}
 use lib.ListN.{length, drop}
 use Rattle.language.specs.Words.{begins}
-use Rattle.words.proofs.WordLaws.{begins_on, begins_not, begins_short, begins_end}
-use borrow.Author.Rules.{rules}
 use Rattle.words.proofs.fit.begins.Given as goal
 
 abbrev pub invariant-loop-i : goal.invariant-loop-i

@@ -1,6 +1,5 @@
-use mathlib.Core.Path.{◌≡◌, refl, ap, ◌∙◌, sym}
+use mathlib.Core.Path.{sym}
 use Rattle.words.proofs.WordLaws.{numeral_none, numeral_broken, numeral_one, numeral_nought, numeral_sound}
-use borrow.Author.Rules.{rules}
 use Rattle.words.proofs.fit.is_numeral.Goals as goal
 
 pub returns-then-word-from : goal.returns-then-word-from

@@ -1,9 +1,8 @@
-use mathlib.Core.Path.{◌≡◌, refl, ap, ◌∙◌, sym}
+use mathlib.Core.Path.{ap, ◌∙◌, sym}
 use mathlib.Core.Bool.{cond}
 use Rattle.language.specs.Words.{fits, long}
 use Rattle.words.specs.Twins.Marks.{fit_number}
 use Rattle.words.proofs.WordLaws.{name_none, name_broken, name_whole}
-use borrow.Author.Rules.{rules}
 use Rattle.words.proofs.fit.name_fit.Goals as goal
 
 pub returns-then-word-from : goal.returns-then-word-from

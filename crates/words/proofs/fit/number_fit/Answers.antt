@@ -1,12 +1,11 @@
 use native.Mathlib.Omega.{arith}
-use mathlib.Core.Path.{◌≡◌, refl, ap, ◌∙◌, sym}
+use mathlib.Core.Path.{ap, ◌∙◌, sym}
 use borrow.Author.Tests.{leb-true, leb-false}
 use mathlib.Core.Bool.{cond}
 use Rattle.language.specs.Bytes.{within}
 use Rattle.language.specs.Words.{fits, long}
 use Rattle.words.specs.Twins.Marks.{fit_number}
 use Rattle.words.proofs.WordLaws.{number_short, number_long, number_unfit}
-use borrow.Author.Rules.{rules}
 use Rattle.words.proofs.fit.number_fit.Goals as goal
 
 pub returns-then-is_number : goal.returns-then-is_number

@@ -1,6 +1,5 @@
-use mathlib.Core.Path.{◌≡◌, refl, ap, ◌∙◌, sym}
+use mathlib.Core.Path.{◌∙◌, sym}
 use Rattle.words.proofs.WordLaws.{same_long, same_unlike}
-use borrow.Author.Rules.{rules}
 use Rattle.words.proofs.fit.same.Goals as goal
 
 pub returns-then-a-b : goal.returns-then-a-b

@@ -1,10 +1,8 @@
 use mathlib.Core.Path.{◌≡◌, refl, ap, ◌∙◌, sym}
 use native.Mathlib.Omega.{arith}
-use Prim.Native.Nat.{◌+◌, ◌-◌, ◌*◌, ◌%◌, ◌<◌}
+use Prim.Native.Nat.{◌+◌, ◌*◌, ◌%◌}
 use native.Mathlib.Nat.{mod-lt}
-use lib.ListN.{length}
 use Rattle.words.proofs.WordLaws.{value_in, value_on, value_end}
-use borrow.Author.Rules.{rules}
 use Rattle.words.proofs.fit.value.Goals as goal
 
 pub loop-i-init : goal.loop-i-init

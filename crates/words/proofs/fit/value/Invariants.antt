@@ -1,10 +1,7 @@
-use mathlib.Core.Path.{◌≡◌, refl, ap, ◌∙◌, sym}
-use native.Mathlib.Omega.{arith}
-use Prim.Native.Nat.{◌+◌, ◌-◌, ◌*◌, ◌%◌, ◌<◌}
-use native.Mathlib.Nat.{mod-lt}
+use mathlib.Core.Path.{◌≡◌}
+use Prim.Native.Nat.{◌-◌, ◌<◌}
 use lib.ListN.{length}
-use Rattle.words.proofs.WordLaws.{value_in, value_on, value_end}
-use borrow.Author.Rules.{rules}
+use Rattle.words.proofs.WordLaws.{value_in}
 use Rattle.words.proofs.fit.value.Given as goal
 
 abbrev pub invariant-loop-i : goal.invariant-loop-i

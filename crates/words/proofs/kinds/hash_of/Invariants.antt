@@ -1,11 +1,7 @@
-use mathlib.Core.Path.{◌≡◌, refl, ap, ◌∙◌, sym}
-use native.Mathlib.Omega.{arith}
-use Prim.Native.Nat.{◌+◌, ◌-◌, ◌*◌, ◌%◌, ◌<◌}
-use native.Mathlib.Nat.{mod-lt}
+use mathlib.Core.Path.{◌≡◌}
+use Prim.Native.Nat.{◌-◌, ◌<◌}
 use lib.ListN.{length, drop}
 use Rattle.words.specs.Twins.Judged.{hash_from}
-use Rattle.words.proofs.WordLaws.{hash_on, hash_end}
-use borrow.Author.Rules.{rules}
 use Rattle.words.proofs.kinds.hash_of.Given as goal
 
 abbrev pub invariant-loop-i : goal.invariant-loop-i

@@ -1,0 +1,6 @@
+use Rattle.heap.specs.Twins.Entries.{entry}
+use Rattle.heap.proofs.entry.put_entry.Goals as goal
+
+pub returns : goal.returns
+unfolding entry
+returns c = rw (← c.narrow-a.ensures, ← c.narrow-b.ensures)

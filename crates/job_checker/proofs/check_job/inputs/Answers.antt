@@ -1,0 +1,18 @@
+use mathlib.Core.Path.{◌≡◌}
+use mathlib.Core.Bool.{true}
+use Rattle.verdicts.specs.declared.found.Verdict.TheVariants.{Fine}
+use borrow.Author.Tests.{eq-eqb, ne_eqb}
+use Rattle.job_checker.specs.Twins.JobStored.{inputs_at}
+use Rattle.job_checker.proofs.JobOpenings.{inputs_more, inputs_none}
+use Rattle.checker.proofs.CheckOpenings.{not_zero, is_zero}
+use borrow.Author.Rules.{rules}
+use Rattle.job_checker.proofs.check_job.inputs.Goals as goal
+
+pub returns-then-key-eq-CLOSE : goal.returns-then-key-eq-CLOSE
+returns-then-key-eq-CLOSE c = rw (c.loop-left.invariant, inputs_more (not_zero _ c.loop-left-test.true), ← c.key-closes.ensures, ← c.key.ensures, eq-eqb _ _ c.if-key-eq-CLOSE.true, ← c.both.ensures)
+
+pub loop-left-preserved : goal.loop-left-preserved
+loop-left-preserved c = rw (c.loop-left.invariant, inputs_more (not_zero _ c.loop-left-test.true), ← c.key-closes.ensures, ← c.key.ensures, ne_eqb _ _ c.if-key-eq-CLOSE.false, ← c.input-c.ensures, ← c.ahead-param.ensures, ← c.negated.ensures, ← c.both-as_many.ensures, ← c.first-fault.ensures)
+
+pub returns : goal.returns
+returns c = rw (c.loop-left.invariant, inputs_none (is_zero _ c.loop-left-test.false))

@@ -1,0 +1,10 @@
+use mathlib.Core.Path.{ap, sym, ◌∙◌}
+use Rattle.language.specs.Words.{begins}
+use Rattle.lexer.proofs.TableMeaning.{other_word}
+use Rattle.lexer.proofs.table.stands_at.Goals as goal
+
+pub returns-then-begins : goal.returns-then-begins
+returns-then-begins c = rw (← c.word_at.ensures) c.same.ensures
+
+pub returns : goal.returns
+returns c = sym (other_word c.args.text.now c.args.at c.args.word.now (ap (begins c.args.word.now) (sym c.part.ensures) ∙ sym c.begins.ensures ∙ c.if-begins.false))

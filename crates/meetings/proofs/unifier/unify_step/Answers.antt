@@ -1,0 +1,14 @@
+use Rattle.meetings.specs.Twins.Unifying.{unify_stepped}
+use Rattle.meetings.proofs.unifier.unify_step.Goals as goal
+
+pub returns-in-Same : goal.returns-in-Same
+unfolding unify_stepped
+returns-in-Same c = rw (← c.disagreement-d.ensures, c.in-Same.is)
+
+pub returns-in-Apart : goal.returns-in-Apart
+unfolding unify_stepped
+returns-in-Apart c = rw (← c.disagreement-d.ensures, c.in-Apart.is)
+
+pub returns-in-Bind : goal.returns-in-Bind
+unfolding unify_stepped
+returns-in-Bind c = rw (← c.disagreement-d.ensures, c.in-Bind.is, ← c.bind.ensures)

@@ -1,0 +1,13 @@
+use mathlib.Core.Path.{◌≡◌}
+use borrow.Author.Tests.{eq-eqb, ne_eqb}
+use Rattle.checker.specs.Twins.CheckStored.{params_end}
+use Rattle.checker.proofs.CheckOpenings.{not_zero, is_zero, end_more, end_none}
+use borrow.Author.Rules.{rules}
+use Rattle.programs.proofs.check_program.params_end.Given as goal
+
+abbrev pub invariant-loop-left : goal.invariant-loop-left
+invariant-loop-left l =
+    params_end l.marks l.n l.room l.i ≡ params_end l.marks l.n l.left l.at
+
+abbrev pub decreases-loop-left : goal.decreases-loop-left
+decreases-loop-left l = l.left

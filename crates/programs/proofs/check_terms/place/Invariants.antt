@@ -1,0 +1,14 @@
+use mathlib.Core.Path.{◌≡◌}
+use Prim.Native.Nat.{◌-◌}
+use borrow.Author.Tests.{eq-eqb, ne_eqb}
+use Rattle.checker.specs.Twins.CheckStored.{place_at}
+use Rattle.checker.proofs.CheckOpenings.{place_more, place_none}
+use borrow.Author.Rules.{rules}
+use Rattle.programs.proofs.check_terms.place.Given as goal
+
+abbrev pub invariant-loop-at : goal.invariant-loop-at
+invariant-loop-at l =
+    place_at l.nums l.n l.heads (l.count - l.j) l.j l.x ≡ place_at l.nums l.n l.heads (l.count - l.at) l.at l.x
+
+abbrev pub decreases-loop-at : goal.decreases-loop-at
+decreases-loop-at l = l.count - l.at

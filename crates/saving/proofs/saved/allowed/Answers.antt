@@ -1,0 +1,13 @@
+use borrow.Author.Tests.{lt-ltb, le-ltb}
+use Rattle.saving.specs.Twins.Saving.{allowed_at}
+use Rattle.saving.proofs.saved.allowed.Goals as goal
+
+pub returns-then-least-depth_at : goal.returns-then-least-depth_at
+unfolding allowed_at
+returns-then-least-depth_at c =
+    rw (← c.begins_at.ensures, ← c.depth_at-before.ensures, ← c.least.ensures, ← c.depth_at.ensures, ← c.least-n.ensures, lt-ltb _ _ c.if-least-depth_at.true)
+
+pub returns : goal.returns
+unfolding allowed_at
+returns c =
+    rw (← c.begins_at.ensures, ← c.depth_at-before.ensures, ← c.least.ensures, ← c.depth_at.ensures, ← c.least-n.ensures, le-ltb _ _ c.if-least-depth_at.false)

@@ -1,0 +1,15 @@
+use mathlib.Core.Path.{◌≡◌, refl, sym, ◌∙◌}
+use Prim.Native.Nat.{◌-◌, ◌≤◌}
+use native.Mathlib.Omega.{arith}
+use borrow.Author.Tests.{leb-true, leb-false}
+use Rattle.checker.specs.Twins.StoredAt.{key_at}
+use Rattle.syntax.specs.Twins.Ends.{close_from}
+use Rattle.syntax.proofs.PartOpenings.{close_end, close_deeper, close_word, close_last, close_higher}
+use borrow.Author.Rules.{rules}
+use Rattle.syntax.proofs.ends.close_from.Given as goal
+
+abbrev pub invariant-loop-i : goal.invariant-loop-i
+invariant-loop-i l = (close_from (key_at l.marks l.n) (l.n - l.from) 0 l.from ≡ close_from (key_at l.marks l.n) (l.n - l.i) l.depth l.i) × (l.depth ≤ l.i)
+
+abbrev pub decreases-loop-i : goal.decreases-loop-i
+decreases-loop-i l = l.n - l.i

@@ -1,0 +1,6 @@
+use Rattle.window.proofs.SinkLaws.{behind}
+use borrow.Author.Rules.{rules}
+use Rattle.window.proofs.leaf.put_new.Goals as goal
+
+pub returns : goal.returns
+returns c = behind _ _ _ c.put_byte-p.ensures c.put_digits.ensures

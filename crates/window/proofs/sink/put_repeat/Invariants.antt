@@ -1,0 +1,13 @@
+use mathlib.Core.Path.{◌≡◌, refl, ap, ◌∙◌, sym}
+use lib.ListN.{length, replicate}
+use Rattle.window.specs.Twins.Sink.{sink, puts}
+use Rattle.window.proofs.SinkLaws.{onward, puts_none}
+use Rattle.window.proofs.TreeTurns.{repeat_step, repeat_end}
+use borrow.Author.Rules.{rules}
+use Rattle.window.proofs.sink.put_repeat.Given as goal
+
+abbrev pub invariant-loop-left : goal.invariant-loop-left
+invariant-loop-left l = (length l.out ≡ length l.initial.out) × (puts (sink l.initial.p l.initial.out) (replicate l.n l.byte) ≡ puts (sink l.p l.out) (replicate l.left l.byte))
+
+abbrev pub decreases-loop-left : goal.decreases-loop-left
+decreases-loop-left l = l.left

@@ -1,0 +1,24 @@
+use Prim.Native.Nat.{◌-◌}
+use mathlib.Core.Path.{◌≡◌, refl, ap, ◌∙◌, sym}
+use lib.ListN.{length, drop, drop_of_length-le}
+use Rattle.window.specs.Twins.Sink.{sink, puts}
+use Rattle.window.proofs.SinkLaws.{onward, puts_none}
+use Rattle.window.proofs.TreeTurns.{text_step}
+use borrow.Author.Rules.{rules}
+use Rattle.window.proofs.sink.put_text.Goals as goal
+
+pub loop-i-init : goal.loop-i-init
+loop-i-init c = (refl, refl)
+
+pub loop-i-preserved : goal.loop-i-preserved
+loop-i-preserved c =
+    let text = c.args.text.now in
+    let h = c.loop-i-test.true in
+    (c.put_byte-p.auto.out ∙ c.loop-i.invariant.0, onward _ _ _ _ _ (c.loop-i.invariant.1 ∙ ap (puts _) (text_step text c.loop-i.i h)) c.put_byte-p.ensures)
+
+pub shape_of-out : goal.shape_of-out
+shape_of-out c = c.loop-i.invariant.0
+
+pub returns : goal.returns
+returns c =
+    sym (c.loop-i.invariant.1 ∙ ap (puts _) (drop_of_length-le _ c.loop-i-test.false) ∙ puts_none _)

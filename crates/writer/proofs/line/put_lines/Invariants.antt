@@ -1,0 +1,20 @@
+use mathlib.Core.Path.{◌≡◌, refl, ap, ◌∙◌, sym as inv}
+use Prim.Native.Nat.{ℕ, ◌+◌, ◌-◌, ◌<◌, min}
+use mathlib.Core.List.{List, ◌++◌}
+use native.Mathlib.Omega.{arith}
+use lib.ListN.{length, drop, length-drop}
+use Rattle.window.specs.Twins.Sink.{sink, puts}
+use Rattle.window.proofs.SinkLaws.{behind, onward, puts_none, puts_full}
+use Rattle.window.specs.Twins.TreeText.{symbol_text}
+use Rattle.writer.specs.Twins.LineText.{line_text, lines_text}
+use Rattle.writer.specs.Twins.LineCells.{line_end}
+use Rattle.writer.specs.Twins.SampleText.{sample_if}
+use Rattle.writer.proofs.TextTurns.{lines_start, lines_out, lines_step, lines_end, drop_ahead}
+use borrow.Author.Rules.{rules}
+use Rattle.writer.proofs.line.put_lines.Given as goal
+
+abbrev pub invariant-loop-i : goal.invariant-loop-i
+invariant-loop-i l = (length l.out ≡ length l.initial.out) × (puts (sink l.initial.p l.initial.out) (lines_text (symbol_text l.program l.job l.symbols) l.io l.samples l.lines 0 l.answer) ≡ puts (sink l.p l.out) (lines_text (symbol_text l.program l.job l.symbols) l.io l.samples (l.lines - l.i) l.i (drop l.at l.answer)))
+
+abbrev pub decreases-loop-i : goal.decreases-loop-i
+decreases-loop-i l = l.lines - l.i

@@ -1,0 +1,17 @@
+use mathlib.Core.Path.{◌≡◌, refl, ap, ◌∙◌, sym}
+use Prim.Native.Nat.{◌≤◌, ◌-◌}
+use native.Mathlib.Omega.{arith}
+use lib.ListN.{length, drop}
+use Rattle.window.specs.Twins.Sink.{sink, puts}
+use Rattle.window.proofs.SinkLaws.{onward, puts_none}
+use Rattle.window.specs.Twins.TreeText.{symbol_text}
+use Rattle.writer.specs.Twins.LineText.{restriction_text}
+use Rattle.writer.proofs.TextTurns.{restriction_step, restriction_end}
+use borrow.Author.Rules.{rules}
+use Rattle.writer.proofs.line.put_restriction.Given as goal
+
+abbrev pub invariant-loop-i : goal.invariant-loop-i
+invariant-loop-i l = (l.i ≤ length l.q) × (length l.out ≡ length l.initial.out) × (puts (sink l.initial.p l.initial.out) (restriction_text (symbol_text l.program l.job l.symbols) l.q) ≡ puts (sink l.p l.out) (restriction_text (symbol_text l.program l.job l.symbols) (drop l.i l.q)))
+
+abbrev pub decreases-loop-i : goal.decreases-loop-i
+decreases-loop-i l = length l.q - l.i

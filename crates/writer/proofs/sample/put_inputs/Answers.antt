@@ -1,0 +1,38 @@
+use Prim.Native.Nat.{◌-◌}
+use mathlib.Core.Path.{◌≡◌, refl, ap, ◌∙◌, sym as inv}
+use native.Mathlib.Omega.{arith}
+use lib.ListN.{length}
+use Rattle.window.specs.Twins.Sink.{sink, puts}
+use Rattle.window.specs.Twins.TreeText.{symbol_text, tree_text}
+use Rattle.window.proofs.SinkLaws.{behind, onward, puts_none}
+use Rattle.writer.specs.Twins.SampleText.{inputs_from, inputs_text}
+use Rattle.writer.proofs.TextTurns.{tree_further, inputs_start, inputs_step, inputs_end}
+use borrow.Author.Rules.{rules}
+use Rattle.writer.proofs.sample.put_inputs.Goals as goal
+
+pub loop-at-init : goal.loop-at-init
+loop-at-init c = (refl, ap (puts _) (inputs_start _ _))
+
+pub loop-at-smaller : goal.loop-at-smaller
+loop-at-smaller c =
+    let a = c.args in
+    let h = c.loop-at-test.true in
+    let e = c.tree_end-end.ensures in
+    let f = tree_further a.inputs.now c.loop-at.at h in
+    omega (arith, h, e, f)
+
+pub loop-at-preserved : goal.loop-at-preserved
+loop-at-preserved c =
+    let a = c.args in
+    let name = symbol_text a.program.now a.job.now a.symbols.now in (
+      c.put_tree-p.auto.out ∙ c.put_byte-b.auto.out ∙ c.loop-at.invariant.0,
+      onward _ _ _ _ _ (c.loop-at.invariant.1 ∙ ap (puts _) (inputs_step name a.inputs.now c.loop-at.at _ c.tree_end-end.ensures c.loop-at-test.true))
+          (behind _ _ _ c.put_byte-b.ensures (c.put_tree-p.ensures ∙ ap (puts _) (ap (tree_text name) c.part.ensures))),
+    )
+
+pub shape_of-out : goal.shape_of-out
+shape_of-out c = c.loop-at.invariant.0
+
+pub returns : goal.returns
+returns c =
+    inv (c.loop-at.invariant.1 ∙ ap (puts _) (inputs_end _ _ c.loop-at.at c.loop-at-test.false) ∙ puts_none _)
