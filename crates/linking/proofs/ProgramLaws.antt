@@ -43,10 +43,10 @@ module _ {tok : ℕ → Token} {n : ℕ} {marks nums ends : List ℕ} (t : Token
   -- the bracket that closes parameters
   closing_found : {i : ℕ} {xs : List SParam} {k : ℕ} (left : ℕ) → ParamsAt tok n i xs k → k < i + left → closing_from marks left i ≡ k
   unfolding closing_from
-  closing_found {i} zero x l = let y = (params_count x).0 in let z : ⊥ = omega arith in absurd z
-  closing_found {i} (suc left) (at.ParamsAt.none_at x) l = rw (word_key t [] 0 "]" i x)
-  closing_found {i} (suc left) (at.ParamsAt.e_at b x xs) l = rw (t.key i x.below, b) (closing_found left xs (omega arith))
-  closing_found {i} (suc left) (at.ParamsAt.a_at b x xs) l = rw (t.key i x.below, b) (closing_found left xs (omega arith))
+  closing_found {i = i} zero x l = let y = (params_count x).0 in let z : ⊥ = omega arith in absurd z
+  closing_found {i = i} (suc left) (at.ParamsAt.none_at x) l = rw (word_key t [] 0 "]" i x)
+  closing_found {i = i} (suc left) (at.ParamsAt.e_at b x xs) l = rw (t.key i x.below, b) (closing_found {i = i + 1} left xs (omega arith))
+  closing_found {i = i} (suc left) (at.ParamsAt.a_at b x xs) l = rw (t.key i x.below, b) (closing_found {i = i + 1} left xs (omega arith))
 
   pub closing_at_lem : {i : ℕ} {xs : List SParam} {k : ℕ} → ParamsAt tok n i xs k → closing_at marks i ≡ k
   closing_at_lem {i} {xs} {k} x = let y = params_count x in let y0 = y.0 in let y1 = y.1 in let z = t.long in closing_found (length marks - i) x (omega arith)

@@ -26,7 +26,7 @@ use Rattle.linking.proofs.TermParts.{on_in, LinkedTo, Calls, result_linked_lem, 
 -- names without the last
 front : {tok : ℕ → Token} {n : ℕ} {names : List ℕ} {j : ℕ} (xs ys : List Param) → NamesAre tok n names j (xs ++ ys) → NamesAre tok n names j xs
 front [] ys h = no_names
-front (x ∷ xs) ys (more_names is hs) = more_names is (front xs ys hs)
+front {j = j} (x ∷ xs) ys (more_names is hs) = more_names is (front {j = j + 1} xs ys hs)
 
 module _ {tok : ℕ → Token} {n : ℕ} {marks nums ends : List ℕ} (t : TokensIn tok n marks nums ends) (heads : List ℕ) (count : ℕ) (fs : List ℕ) (p : Prog) (bodies : ℕ → ℕ) where
   abbrev again : ℕ → ℕ → ℕ → Linked → Linked

@@ -82,6 +82,7 @@ binds_cons (environment.Binds.there z w bs n k) = inr k
 
 -- a name that is bound is in reach
 bound_place_e : {names : List Param} {vs : List Exp} (x : ℕ) (v : Exp) → Typed names vs → Binds x v (env_of names vs).evars → place_in (pe x) names < length names
+bound_place_e x v none_typed b = elim b [ ]
 bound_place_e x v (e_typed {x = y} {sc = sc} t) b = go (eqb y x) refl (binds_cons b) (λ k. bound_place_e x v t k)
   where
     go : (r : Bool) → eqb y x ≡ r → {bs : List (ℕ × Exp)} → (y ≡ x) ⊎ Binds x v bs → (Binds x v bs → place_in (pe x) sc < length sc) → cond r 0 (suc (place_in (pe x) sc)) < suc (length sc)
@@ -91,6 +92,7 @@ bound_place_e x v (e_typed {x = y} {sc = sc} t) b = go (eqb y x) refl (binds_con
 bound_place_e x v (a_typed {sc = sc} t) b = let i = bound_place_e x v t b in omega arith
 
 bound_place_a : {names : List Param} {vs : List Exp} (x : ℕ) (v : AtomicExp) → Typed names vs → Binds x v (env_of names vs).avars → place_in (pa x) names < length names
+bound_place_a x v none_typed b = elim b [ ]
 bound_place_a x v (a_typed {x = y} {sc = sc} t) b = go (eqb y x) refl (binds_cons b) (λ k. bound_place_a x v t k)
   where
     go : (r : Bool) → eqb y x ≡ r → {bs : List (ℕ × AtomicExp)} → (y ≡ x) ⊎ Binds x v bs → (Binds x v bs → place_in (pa x) sc < length sc) → cond r 0 (suc (place_in (pa x) sc)) < suc (length sc)

@@ -1,0 +1,14 @@
+use Prim.Native.Nat.{◌-◌}
+use mathlib.Core.Path.{◌≡◌, refl, ap, ◌∙◌, sym as inv}
+use native.Mathlib.Omega.{arith}
+use Rattle.linking.specs.declared.code.Link.{Link}
+use Rattle.constants.specs.Twins.Laying.{named_in}
+use Rattle.constants.proofs.LayTurns.{named_here, named_later, named_none}
+use borrow.Author.Rules.{rules}
+use Rattle.constants.proofs.lay.is_named.Given as goal
+
+abbrev pub invariant-loop-j : goal.invariant-loop-j
+invariant-loop-j l = named_in l.code (l.to - l.i) l.i ≡ named_in l.code (l.to - l.j) l.j
+
+abbrev pub decreases-loop-j : goal.decreases-loop-j
+decreases-loop-j l = l.to - l.j

@@ -1,0 +1,13 @@
+use mathlib.Core.Path.{◌≡◌}
+use Prim.Native.Nat.{◌-◌}
+use Rattle.linking.specs.Twins.Linking.{range_linked}
+use Rattle.linking.proofs.LinkTurns.{range_turn, range_end}
+use borrow.Author.Rules.{rules}
+use Rattle.linking.proofs.expression.link_range.Given as goal
+
+abbrev pub invariant-loop-i : goal.invariant-loop-i
+invariant-loop-i l =
+    range_linked l.marks l.nums l.ends l.names l.used (l.to - l.from) l.from l.initial.code ≡ range_linked l.marks l.nums l.ends l.names l.used (l.to - l.i) l.i l.code
+
+abbrev pub decreases-loop-i : goal.decreases-loop-i
+decreases-loop-i l = l.to - l.i
