@@ -1,5 +1,5 @@
 -- Laws of the readers: what is read is a part of the front, and the count in `up_to` never runs out.
-use Prim.Native.Nat.{ℕ, zero, suc, ◌+◌, ◌-◌, ◌≤◌, ◌<◌}
+use Prim.Native.Nat.{ℕ, zero, suc, ◌+◌, ◌≤◌, ◌<◌}
 use Prim.Native.String.{String}
 use mathlib.Core.Path.{◌≡◌, refl, ap, subst, ◌∙◌, sym as inv}
 use mathlib.Core.Bool.{Bool, true, false}

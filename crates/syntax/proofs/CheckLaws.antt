@@ -1,30 +1,27 @@
 -- The check by position on an e and on arguments: it goes past them and finds what the check of what was read finds.
 use Prim.Native.Nat.{ℕ, zero, suc, ◌+◌, ◌-◌, ◌≤◌, ◌<◌}
 use Prim.Native.String.{String}
-use mathlib.Core.Path.{◌≡◌, refl, ap, ap₂, subst, ◌∙◌, sym as inv}
+use mathlib.Core.Path.{◌≡◌, refl, ap, ap₂, ◌∙◌, sym as inv}
 use mathlib.Core.Bool.{Bool, true, false, cond, ◌&&◌, ◌||◌, not}
 use mathlib.Core.List.{List, [], ◌∷◌}
 use mathlib.Core.Option.{none, some}
 use native.Mathlib.Omega.{arith}
-use lib.Dec.{eqb, leb, ltb}
-use lib.ListN.{length, get_or}
-use borrow.Author.Tests.{eqb-true, eqb-false, eq-eqb, ne_eqb, lt-ltb, le-ltb}
+use lib.Dec.{eqb}
+use borrow.Author.Tests.{eqb-true, le-ltb}
 use Rattle.language.specs.Bytes.{txt, Refusal, unless, ◌or_else◌}
 use Rattle.language.specs.Bytes as bytes
-use Rattle.language.specs.Tokens.{Kind, symbol, ename, aname, plain, tag, Text, of_program, of_job, Token, key_of}
+use Rattle.language.specs.Tokens.{Kind, symbol, ename, aname, tag, Text, of_program, Token, key_of}
 use Rattle.language.specs.Reader.{is, is_a}
-use Rattle.language.specs.Program.{Param, pe, pa}
 use Rattle.language.specs.Scope.{Scope, is_in, is_atomic}
-use Rattle.language.specs.Source.{SExp, sym_s, evar_s, avar_s, pair_s, SParam, exp, at_of, params}
-use Rattle.language.specs.ProgramCheck.{reach_e, reach_ea, reach_args}
+use Rattle.language.specs.Source.{SExp, exp, at_of}
+use Rattle.language.specs.ProgramCheck.{reach_e, reach_ea}
 use Rattle.syntax.specs.Twins.Standing.{WordAt, NameAt, ExpAt, symbol_at, cons_at, ExpsAt, ParamsAt}
 use Rattle.syntax.specs.Twins.Standing as at
 use Rattle.verdicts.specs.declared.found.Verdict.{Verdict}
 use Rattle.verdicts.specs.declared.found.Verdict.TheVariants.{Fine, Fault}
 use Rattle.verdicts.specs.declared.found.Walked.{Walked}
-use Rattle.verdicts.specs.declared.found.Args.{Args}
 use Rattle.checker.specs.declared.check.Names.{Names}
-use Rattle.checker.specs.Twins.CheckAt.{first, judge, ahead, walked, arguments, is_named, in_reach, leaf_at, pair_at, pick, exp_at, atomic_at, ea_at, arg_at, args_at}
+use Rattle.checker.specs.Twins.CheckAt.{first, judge, ahead, walked, arguments, in_reach, leaf_at, pair_at, pick, exp_at, atomic_at, ea_at, arg_at, args_at}
 
 -- a verdict of the meaning as the code has it
 abbrev pub coded : bytes.Verdict → Verdict

@@ -1,20 +1,20 @@
 -- What the brackets say is where an expression, a condition or a term ends (specs/twins/Ends.antt, specs/twins/Placed.antt).
 use Prim.Native.Nat.{ℕ, zero, suc, ◌+◌, ◌-◌, ◌≤◌, ◌<◌}
 use Prim.Native.String.{String}
-use mathlib.Core.Path.{◌≡◌, refl, ap, ap₂, subst, ◌∙◌, sym as inv}
-use mathlib.Core.Bool.{Bool, true, false, cond, ◌||◌}
-use mathlib.Core.List.{List, [], ◌∷◌}
+use mathlib.Core.Path.{◌≡◌, refl, subst, ◌∙◌}
+use mathlib.Core.Bool.{Bool, true, false, ◌||◌}
+use mathlib.Core.List.{List}
 use native.Mathlib.Omega.{arith}
 use native.Mathlib.Numerals.{add-one}
 use native.Mathlib.Nat.{add_assoc}
-use lib.Dec.{eqb, leb, ltb}
+use lib.Dec.{eqb, ltb}
 use lib.ListN.{length, get_or, set, length-set}
 use lib.Seq.{get_or-set_same, get_or-set_other}
 use borrow.Author.Tests.{eqb-true, eqb-false, ltb-true, ltb-false, lt-leb}
 use Rattle.expressions.specs.Expression.{Exp}
 use Rattle.language.specs.Bytes.{txt}
 use Rattle.language.specs.Words.{fits}
-use Rattle.language.specs.Tokens.{Kind, Text, of_program, Token, key_of}
+use Rattle.language.specs.Tokens.{Kind, Text, Token, key_of}
 use Rattle.language.specs.Reader.{is}
 use Rattle.language.specs.Program.{Condition, Term}
 use Rattle.syntax.specs.Twins.Standing.{WordAt, NameAt}

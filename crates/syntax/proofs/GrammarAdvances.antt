@@ -2,14 +2,14 @@
 use Prim.Native.Nat.{ℕ, zero, suc}
 use Prim.Native.String.{String}
 use mathlib.Core.Path.{◌≡◌, refl}
-use mathlib.Core.List.{List, [], ◌∷◌}
+use mathlib.Core.List.{[]}
 use native.Mathlib.Omega.{arith}
 use Rattle.language.specs.Words.{Fit}
 use Rattle.language.specs.Tokens.{Kind, symbol, ename, aname, evariable, avariable, plain, Token}
-use Rattle.language.specs.Reader.{Reader, ◌>>=◌, refuse, give, take, the, the_in, wrong, choose, up_to}
+use Rattle.language.specs.Reader.{Reader, ◌>>=◌, refuse, give, take}
 use Rattle.syntax.proofs.Advances.{Advances, fewer, give_advances, take_advances, wrong_advances, bind_advances, then_advances, choose_advances, up_to_advances}
-use Rattle.language.specs.Source.{Stand, SExp, sym_s, evar_s, avar_s, SCondition, STerm, SParam, SDef, SProg}
-use Rattle.language.specs.Grammar.{word, or_word, leaf, leaf_d, cons_at, tree, expr, datum, args, condition, form, term, parameter, parameters, definition, is_end, definitions, program, sides, part}
+use Rattle.language.specs.Source.{Stand, SExp, sym_s, evar_s, avar_s, STerm}
+use Rattle.language.specs.Grammar.{word, or_word, leaf, leaf_d, cons_at, tree, expr, datum, args, condition, form, term, parameter, parameters, definition, definitions, sides, part}
 
 pub takes : (f : Token → Fit) → Advances 0 (take f)
 takes f = fewer 0 1 (take f) (omega arith) (take_advances f)

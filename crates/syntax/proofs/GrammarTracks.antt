@@ -1,16 +1,16 @@
 -- The readers by positions track those of the grammar.
-use Prim.Native.Nat.{ℕ, zero, suc, ◌≤◌}
+use Prim.Native.Nat.{ℕ, zero, suc}
 use Prim.Native.String.{String}
 use mathlib.Core.Path.{◌≡◌, refl, ap, ◌∙◌}
-use mathlib.Core.Bool.{Bool, false, cond}
+use mathlib.Core.Bool.{false, cond}
 use mathlib.Core.List.{List, [], ◌∷◌}
 use native.Mathlib.Omega.{arith}
 use lib.ListN.{length}
-use Rattle.language.specs.Words.{Fit, broken}
+use Rattle.language.specs.Words.{broken}
 use Rattle.language.specs.Tokens.{Kind, symbol, ename, aname, evariable, avariable, plain, Token}
 use Rattle.language.specs.Reader.{Reader, ◌>>=◌, ◌>>◌, give, take, wrong, choose, is, is_a, fit_if, roomed, one_fit, the, the_in, up_to}
 use Rattle.syntax.proofs.Advances.{Advances, fewer, give_advances, bind_advances, then_advances, choose_advances, up_to_advances}
-use Rattle.language.specs.Source.{Stand, SExp, sym_s, evar_s, avar_s, pair_s, SCondition, eqa_s, consp_s, STerm, call_s, conditional_s, result_s, SParam, SDef, SProg, SJob}
+use Rattle.language.specs.Source.{Stand, SExp, sym_s, evar_s, avar_s, pair_s, SCondition, eqa_s, consp_s, STerm, call_s, conditional_s, result_s, SParam, SDef, SJob}
 use Rattle.language.specs.Grammar.{standing, word, or_word, leaf, leaf_d, cons_at, tree, expr, datum, args, condition, form, term, parameter, parameters, definition, is_end, definitions, program, sides, part, job_text}
 use Rattle.syntax.proofs.GrammarAdvances.{takes, word_advances, tree_advances, leaf_advances, leaf_d_advances, expr_advances, datum_advances, args_advances, condition_advances, term_advances, cons_advances, parameter_advances, parameters_advances, definition_advances, definitions_advances, sides_advances, part_advances}
 use Rattle.words.specs.declared.got.Got.{Got}

@@ -18,7 +18,6 @@ use Rattle.job_checker.specs.Twins.JobStored.{val_at}
 use Rattle.lexer.specs.Twins.Lexed.{State}
 use Rattle.checker.specs.Twins.StoredAt.{key_at}
 use Rattle.syntax.specs.Twins.PartEnds.{part_ends, job_numerals}
-use Rattle.syntax.specs.declared.numerals.Numerals.{Numerals}
 use Rattle.syntax.specs.Twins.Standing.{WordAt, NameAt, ExpAt, symbol_at, cons_at, ExpsAt, SidesAt, JobAt, job_at}
 use Rattle.syntax.specs.Twins.Standing as at
 use Rattle.syntax.proofs.Tracks.{token_at}

@@ -1,22 +1,20 @@
 -- A job that was read stands in its tokens as specs/twins/Standing.antt says.
-use Prim.Native.Nat.{ℕ, zero, suc, ◌+◌, ◌≤◌, ◌<◌}
+use Prim.Native.Nat.{ℕ, ◌+◌}
 use Prim.Native.String.{String}
 use mathlib.Core.Path.{◌≡◌, refl}
-use mathlib.Core.Bool.{Bool, true, false}
-use mathlib.Core.List.{List, [], ◌∷◌}
+use mathlib.Core.List.{List, ◌∷◌}
 use native.Mathlib.Omega.{arith}
 use native.Mathlib.Nat.{add_assoc}
-use lib.ListN.{length, drop}
+use lib.ListN.{length}
 use Rattle.language.specs.Tokens.{plain, of_job, Token}
-use Rattle.language.specs.Reader.{ok, Reader, is}
-use Rattle.grammar.specs.Twins.Positions.{nothing}
+use Rattle.language.specs.Reader.{ok, Reader}
 use Rattle.language.specs.Source.{Stand, SExp, SJob}
 use Rattle.language.specs.Grammar as grammar
 use Rattle.language.specs.Grammar.{standing}
 use Rattle.syntax.specs.Twins.Standing.{WordAt, NameAt, ExpAt, ExpsAt, SidesAt, NumeralAt, JobAt, job_at}
 use Rattle.syntax.specs.Twins.Standing as at
 use Rattle.syntax.proofs.Tracks.{token_at}
-use Rattle.syntax.proofs.ReadParts.{Part, Given, given, given_as, Both, both, Either, left, right, Items, done, item, Wrong, never, Reads, read_as, give_reads, bind_reads, then_reads, wrong_reads, choose_reads, up_to_reads}
+use Rattle.syntax.proofs.ReadParts.{Part, Given, given_as, Both, both, Either, left, right, Items, done, item, Wrong, never, Reads, give_reads, bind_reads, then_reads, wrong_reads, choose_reads, up_to_reads}
 use Rattle.syntax.proofs.Standing.{Word, word, Standing, stand, Exp, the_reads, word_reads, datum_reads, items_at}
 
 -- `(w ..)`

@@ -1,27 +1,25 @@
 -- The names in reach by position: what a name more brings into reach; parameters; the table of definitions.
-use Prim.Native.Nat.{ℕ, zero, suc, ◌+◌, ◌-◌, ◌≤◌, ◌<◌}
+use Prim.Native.Nat.{ℕ, zero, suc, ◌+◌, ◌≤◌, ◌<◌}
 use mathlib.Core.Path.{◌≡◌, refl, ap, ap₂, subst, ◌∙◌, sym as inv}
-use mathlib.Core.Bool.{Bool, true, false, cond, ◌&&◌, ◌||◌, not, false≢true}
+use mathlib.Core.Bool.{Bool, true, false, cond, ◌&&◌, ◌||◌}
 use mathlib.Core.List.{List, [], ◌∷◌}
 use native.Mathlib.Omega.{arith}
 use native.Mathlib.Numerals.{add-one}
-use lib.Dec.{eqb, leb, ltb, eqb-zero-suc, eqb-suc-zero, eqb-suc-suc}
-use lib.ListN.{length, get_or, set, replicate, length-set, length-replicate}
+use lib.Dec.{eqb, eqb-zero-suc, eqb-suc-zero, eqb-suc-suc}
+use lib.ListN.{length, set, length-set, length-replicate}
 use lib.Seq.{get_or-set_same, get_or-set_other}
-use borrow.Author.Tests.{eqb-true, eq-eqb, ne_eqb, lt-ltb, le-ltb}
-use Rattle.expressions.proofs.Tests.{eqb_same}
-use Rattle.language.specs.Bytes.{unless, ◌or_else◌}
-use Rattle.language.specs.Tokens.{Kind, symbol, ename, aname, tag, Token}
+use borrow.Author.Tests.{eqb-true, lt-ltb}
+use Rattle.language.specs.Bytes.{◌or_else◌}
+use Rattle.language.specs.Tokens.{Kind, ename, aname, tag, Token}
 use Rattle.language.specs.Reader.{is, is_a}
-use Rattle.language.specs.Program.{Param, pe, pa, Prog, find}
 use Rattle.language.specs.Scope.{Scope, is_in, with_e, with_a, scope_of}
-use Rattle.language.specs.Source.{SExp, SParam, SDef, params, place_of, functions, prog_of}
+use Rattle.language.specs.Source.{SExp, SParam, params}
 use Rattle.language.specs.ProgramCheck.{reach_e, reach_ea, reach_args}
 use Rattle.syntax.specs.Twins.Standing.{WordAt, NameAt, ParamsAt, DefAt, define_at, HeadsAt}
 use Rattle.syntax.specs.Twins.Standing as at
 use Rattle.checker.specs.declared.check.Names.{Names}
-use Rattle.checker.specs.Twins.CheckAt.{ahead, no_names, push, same_name, is_named, in_reach, place_at, params_at, params_end}
-use Rattle.syntax.proofs.CheckLaws.{coded, ahead_in, is_a_other, keys, kinds, nums, ats, Reach, args_fit, arg_uses, args_uses}
+use Rattle.checker.specs.Twins.CheckAt.{ahead, no_names, push, same_name, is_named, params_at, params_end}
+use Rattle.syntax.proofs.CheckLaws.{ahead_in, is_a_other, keys, kinds, nums, Reach, args_fit, arg_uses, args_uses}
 
 -- there is room for m names more
 pub record Wide (sc : Names) (m : ℕ) : Type 0 where

@@ -1,8 +1,8 @@
 -- What the brackets say is where the parts of a job stand (specs/twins/PartEnds.antt).
 use Prim.Native.Nat.{ℕ, suc, ◌+◌, ◌-◌, ◌≤◌, ◌<◌}
 use Prim.Native.String.{String}
-use mathlib.Core.Path.{◌≡◌, refl, ◌∙◌}
-use mathlib.Core.Bool.{true, false, ◌||◌}
+use mathlib.Core.Path.{◌≡◌, refl}
+use mathlib.Core.Bool.{false, ◌||◌}
 use mathlib.Core.List.{List}
 use native.Mathlib.Omega.{arith}
 use native.Mathlib.Numerals.{add-one}
@@ -13,7 +13,7 @@ use Rattle.language.specs.Tokens.{of_job, Token, key_of}
 use Rattle.language.specs.Source.{SExp}
 use Rattle.syntax.specs.Twins.Standing.{WordAt, ExpAt, ExpsAt, SidesAt}
 use Rattle.syntax.specs.Twins.Standing as at
-use Rattle.syntax.specs.Twins.PartEnds.{parts_to, part_ends}
+use Rattle.syntax.specs.Twins.PartEnds.{part_ends}
 use Rattle.syntax.specs.declared.job_ends.JobEnds.{JobEnds}
 use Rattle.syntax.proofs.CheckLaws.{ahead_in}
 use Rattle.syntax.proofs.Placed.{exp_placed}

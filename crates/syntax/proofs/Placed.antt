@@ -1,15 +1,11 @@
 -- What stands in the tokens of a program is placed there as specs/twins/Placed.antt says; what the first tokens of a term say of it.
-use Prim.Native.Nat.{ℕ, zero, suc, ◌+◌, ◌≤◌, ◌<◌}
-use mathlib.Core.Path.{◌≡◌, refl, ap, subst, ◌∙◌, sym as inv}
-use mathlib.Core.Bool.{Bool, true, false}
-use mathlib.Core.List.{List, [], ◌∷◌}
+use Prim.Native.Nat.{ℕ, ◌+◌}
+use mathlib.Core.List.{List}
 use native.Mathlib.Nat.{add_assoc}
-use lib.ListN.{get_or}
-use Rattle.expressions.specs.Expression.{Exp}
 use Rattle.language.specs.Program.{Condition, Term}
 use Rattle.language.specs.Tokens.{Text, of_program, Token}
 use Rattle.language.specs.Reader.{is}
-use Rattle.language.specs.Source.{SExp, SCondition, STerm, SParam, SDef, exp, exps, condition, term, params, functions, prog_of}
+use Rattle.language.specs.Source.{SExp, SCondition, STerm, SParam, SDef, exp, exps, condition, term, params, prog_of}
 use Rattle.syntax.specs.Twins.Standing as at
 use Rattle.syntax.specs.Twins.Standing.{WordAt, ExpAt, ExpsAt, ConditionAt, TermAt, ParamsAt, DefAt, HeadsAt}
 use Rattle.syntax.specs.Twins.Placed.{ExpIn, symbol_in, cons_in, ExpsIn, ConditionIn, eqa_in, consp_in, TermIn, call_in, if_in, result_in, ParamsIn, DefIn, DefsIn, View, leaf_view, call_view, if_view, cons_view, ConditionView, eqa_view, consp_view}

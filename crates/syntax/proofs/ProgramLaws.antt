@@ -1,12 +1,12 @@
 -- The check by position on definitions and on a program: `program-checked`.
-use Prim.Native.Nat.{ℕ, zero, suc, ◌+◌, ◌-◌, ◌≤◌, ◌<◌}
-use mathlib.Core.Path.{◌≡◌, refl, ap, ap₂, subst, ◌∙◌, sym as inv}
+use Prim.Native.Nat.{ℕ, zero, suc, ◌+◌, ◌≤◌, ◌<◌}
+use mathlib.Core.Path.{◌≡◌, refl, ap, ap₂, ◌∙◌, sym as inv}
 use mathlib.Core.Bool.{Bool, true, false, cond, ◌&&◌, ◌||◌, not}
 use mathlib.Core.List.{List, [], ◌∷◌, ◌++◌, append_assoc, append-nil}
 use mathlib.Core.Option.{none, some}
 use native.Mathlib.Omega.{arith}
 use native.Mathlib.Nat.{add_assoc}
-use lib.Dec.{eqb, leb, ltb, leb-zero, leb-suc-zero, leb-suc-suc}
+use lib.Dec.{eqb, leb, leb-suc-zero, leb-suc-suc}
 use lib.ListN.{length, get_or, set, length-set, length-replicate, length-append}
 use lib.Seq.{get_or-set_same, get_or-set_other}
 use borrow.Author.Tests.{lt-ltb}
@@ -14,7 +14,7 @@ use Rattle.language.specs.Bytes.{unless, ◌or_else◌}
 use Rattle.language.specs.Bytes as bytes
 use Rattle.language.specs.Tokens.{ename, aname, Token}
 use Rattle.language.specs.Reader.{is, is_a}
-use Rattle.language.specs.Program.{Param, pe, pa, same_param}
+use Rattle.language.specs.Program.{Param, pe, pa}
 use Rattle.language.specs.Scope.{Scope, is_in, scope_of}
 use Rattle.language.specs.WellFormed.{has_param}
 use Rattle.language.specs.Source.{SParam, SDef, SProg, params, place_of, functions, prog_of, defs, SCondition, STerm}

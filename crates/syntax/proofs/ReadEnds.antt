@@ -2,7 +2,6 @@
 use Prim.Native.Nat.{ℕ, zero, suc}
 use mathlib.Core.Path.{◌≡◌, refl, ap, ◌∙◌, sym}
 use mathlib.Core.Bool.{Bool, true, false}
-use native.Mathlib.Omega.{arith}
 use Rattle.language.specs.Tokens.{plain, Token}
 use Rattle.language.specs.Grammar.{is_end}
 use Rattle.words.specs.declared.got.Got.{Got}

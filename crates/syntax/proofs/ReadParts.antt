@@ -1,6 +1,6 @@
 -- What a reader read, by index: `Reads m R` says that R holds of the index where m began, of what it gave and of the index past it.
 -- R is put together as the reader is, of the families below; proofs/Standing.antt turns them into those of specs/twins/Standing.antt.
-use Prim.Native.Nat.{ℕ, zero, suc, ◌+◌, ◌-◌, ◌≤◌, ◌<◌}
+use Prim.Native.Nat.{ℕ, zero, suc, ◌+◌, ◌≤◌, ◌<◌}
 use Prim.Native.String.{String}
 use mathlib.Core.Path.{◌≡◌, refl, ap, subst, ◌∙◌, sym as inv}
 use mathlib.Core.Bool.{Bool, true, false}
@@ -10,7 +10,7 @@ use lib.ListN.{length, drop, get_or, length-drop}
 use lib.Seq.{drop-drop, get_or-drop}
 use Rattle.language.specs.Words.{Fit, fits, broken, long, many}
 use Rattle.language.specs.Tokens.{Token}
-use Rattle.language.specs.Reader.{Res, ok, and_then, Reader, ◌>>=◌, ◌>>◌, give, judged, take, is, wrong, next, pick, choose, many_in, up_to}
+use Rattle.language.specs.Reader.{ok, Reader, ◌>>=◌, ◌>>◌, give, judged, take, is, wrong, next, pick, choose, many_in, up_to}
 use Rattle.grammar.specs.Twins.Positions.{nothing}
 use Rattle.syntax.proofs.Advances.{ok_inj, refused_ok, then_ok}
 use Rattle.syntax.proofs.Tracks.{token_at}

@@ -12,9 +12,8 @@ use borrow.Author.Tests.{eqb-true, ltb-true}
 use Rattle.expressions.proofs.Tests.{and_both}
 use Rattle.language.specs.Words.{Fit, fits, broken, long, many}
 use Rattle.language.specs.Bytes.{txt}
-use Rattle.language.specs.Tokens.{key_of, Kind, symbol, ename, aname, evariable, avariable, plain, tag, same_kind, Token}
+use Rattle.language.specs.Tokens.{key_of, Kind, symbol, ename, aname, evariable, avariable, plain, same_kind, Token}
 use Rattle.language.specs.Reader.{is, is_a, fit_if, roomed, one_fit}
-use Rattle.language.specs.Grammar.{is_end}
 use Rattle.words.specs.declared.got.Got.{Got}
 use Rattle.words.specs.declared.got.Got.TheVariants.{Past, Refused}
 use Rattle.grammar.specs.Twins.Positions as at

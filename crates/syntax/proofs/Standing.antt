@@ -1,12 +1,12 @@
 -- What the grammar reads stands in the tokens as specs/twins/Standing.antt says: `program-stands` for a program.
-use Prim.Native.Nat.{ℕ, zero, suc, ◌+◌, ◌≤◌, ◌<◌}
+use Prim.Native.Nat.{ℕ, zero, suc, ◌+◌, ◌≤◌}
 use Prim.Native.String.{String}
-use mathlib.Core.Path.{◌≡◌, refl, ap, subst, ◌∙◌, sym as inv}
+use mathlib.Core.Path.{◌≡◌, refl}
 use mathlib.Core.Bool.{Bool, true, false, cond}
 use mathlib.Core.List.{List, [], ◌∷◌}
 use native.Mathlib.Omega.{arith}
 use native.Mathlib.Nat.{add_assoc}
-use lib.ListN.{length, drop}
+use lib.ListN.{length}
 use Rattle.language.specs.Words.{Fit, fits, broken, long, many}
 use Rattle.language.specs.Tokens.{Kind, symbol, ename, aname, evariable, avariable, plain, Text, of_program, of_job, Token}
 use Rattle.language.specs.Reader.{ok, Reader, is, is_a, fit_if, roomed, one_fit, one_of, the, the_in}
@@ -18,7 +18,7 @@ use Rattle.language.specs.Grammar.{standing}
 use Rattle.syntax.specs.Twins.Standing.{WordAt, NameAt, e_kind, a_kind, ExpAt, symbol_at, cons_at, ExpsAt, ConditionAt, eqa_at, consp_at, TermAt, call_at, if_at, result_at, ParamsAt, DefAt, define_at, DefsAt, ProgramAt}
 use Rattle.syntax.specs.Twins.Standing as at
 use Rattle.syntax.proofs.Tracks.{token_at}
-use Rattle.syntax.proofs.ReadParts.{Part, Given, given, given_as, Taken, taken, Both, both, Either, left, right, Items, done, item, Wrong, never, After, Reads, read_as, give_reads, take_reads, bind_reads, then_reads, wrong_reads, choose_reads, up_to_reads}
+use Rattle.syntax.proofs.ReadParts.{Part, Given, given, given_as, Taken, taken, Both, both, Either, left, right, Items, done, item, Wrong, never, Reads, read_as, give_reads, take_reads, bind_reads, then_reads, wrong_reads, choose_reads, up_to_reads}
 
 -- what the tests of a taken token say
 fit_is : (b : Bool) → fit_if b ≡ fits → b ≡ true

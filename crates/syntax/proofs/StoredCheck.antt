@@ -1,6 +1,6 @@
 -- The check of stored tokens: where the cells hold the tokens of a text that was read as a program, the code's check finds what the
 -- check of that program finds (`stored-checked`), and its table holds the program's definitions (`stored-definitions`).
-use Prim.Native.Nat.{ℕ, zero, suc, ◌/◌, ◌%◌, ◌<◌, ◌≤◌}
+use Prim.Native.Nat.{ℕ, ◌%◌, ◌≤◌}
 use mathlib.Core.Path.{◌≡◌, refl, ap, subst, ◌∙◌, fun_ext, sym as inv}
 use mathlib.Core.Bool.{Bool, true, false, cond}
 use mathlib.Core.List.{List}
@@ -11,7 +11,7 @@ use Rattle.language.specs.Reader.{ok}
 use Rattle.language.specs.Grammar.{program}
 use Rattle.language.specs.Source.{SProg, functions, defs, prog}
 use Rattle.language.specs.ProgramCheck.{program_verdict}
-use Rattle.words.specs.Twins.Marks.{kind_at, kind_tag, decode}
+use Rattle.words.specs.Twins.Marks.{kind_tag, decode}
 use Rattle.grammar.specs.Twins.Stored.{mark_at, offset_at}
 use Rattle.grammar.specs.Twins.Stored as stored
 use Rattle.grammar.specs.Twins.Positions.{nothing}
@@ -24,7 +24,6 @@ use Rattle.checker.specs.Twins.CheckAt.{no_defs}
 use Rattle.checker.specs.declared.check.Defs.{Defs}
 use Rattle.syntax.proofs.Tracks.{token_at}
 use native.Mathlib.Omega.{arith}
-use borrow.Author.Tests.{ltb-true}
 use Rattle.syntax.proofs.CheckLaws.{coded, keys, kinds, nums, ats}
 use Rattle.syntax.proofs.Standing.{program_stands}
 use Rattle.syntax.proofs.ProgramLaws.{program_checked, program_table}

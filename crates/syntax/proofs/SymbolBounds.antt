@@ -5,7 +5,7 @@ use mathlib.Core.List.{List, [], ◌∷◌}
 use native.Mathlib.Omega.{arith}
 use lib.ListN.{length, get_or}
 use Rattle.language.specs.Words.{Word, Fit, fits, broken, long, many}
-use Rattle.language.specs.Tokens.{Piece, cut, Kind, symbol, ename, aname, evariable, avariable, plain, tag, kind_of, Text, fit_of, num_of, fitting, symbols_of, names_of, Token, tokens_from, tokens}
+use Rattle.language.specs.Tokens.{Piece, cut, Kind, symbol, ename, aname, evariable, avariable, plain, tag, kind_of, Text, fit_of, num_of, fitting, symbols_of, names_of, tokens_from, tokens}
 use Rattle.grammar.specs.Twins.Positions.{nothing}
 use Rattle.syntax.proofs.Tracks.{token_at}
 use Rattle.lexer.proofs.TokenMeaning.{place_most}

@@ -1,28 +1,25 @@
 -- The check by position on a t: it goes past it, and finds of 6, of 13 and of 7, 8, 9 what the check of what was read finds.
 use Prim.Native.Nat.{ℕ, zero, suc, ◌+◌, ◌-◌, ◌≤◌, ◌<◌}
-use mathlib.Core.Path.{◌≡◌, refl, ap, ap₂, subst, ◌∙◌, sym as inv}
-use mathlib.Core.Bool.{Bool, true, false, cond, ◌&&◌, ◌||◌, not, false≢true}
+use mathlib.Core.Path.{◌≡◌, refl, ap, subst, ◌∙◌, sym as inv}
+use mathlib.Core.Bool.{Bool, true, false, cond, ◌&&◌, not}
 use mathlib.Core.List.{List, [], ◌∷◌}
-use mathlib.Core.Option.{none, some}
 use native.Mathlib.Omega.{arith}
-use native.Mathlib.Numerals.{add-one}
 use native.Mathlib.Nat.{add_assoc}
-use lib.Dec.{eqb, leb, ltb}
-use lib.ListN.{length, get_or, get_or-eq_default}
-use borrow.Author.Tests.{eqb-true, ltb-true, lt-ltb, le-ltb}
-use Rattle.expressions.proofs.Tests.{and_both}
+use lib.Dec.{eqb, ltb}
+use lib.ListN.{length, get_or}
+use borrow.Author.Tests.{eqb-true, ltb-true}
 use Rattle.language.specs.Bytes.{unless, ◌or_else◌}
 use Rattle.language.specs.Bytes as bytes
-use Rattle.language.specs.Tokens.{ename, aname, plain, tag, of_program, Token}
+use Rattle.language.specs.Tokens.{ename, aname, of_program, Token}
 use Rattle.language.specs.Reader.{is, is_a}
-use Rattle.language.specs.Program.{Param, Prog, Def, find}
-use Rattle.language.specs.Scope.{Scope, is_in, with_e, with_a, pair_scope, scope_of}
-use Rattle.language.specs.Source.{Stand, SExp, SCondition, eqa_s, consp_s, STerm, call_s, conditional_s, result_s, SParam, SDef, params, place_of, functions, prog_of}
-use Rattle.language.specs.ProgramCheck.{reach_e, reach_ea, reach_args, condition_twice, term_twice, new_e, new_a, term_rebound, call_verdict, term_verdict}
+use Rattle.language.specs.Program.{Param, Prog, find}
+use Rattle.language.specs.Scope.{Scope, is_in, with_e, with_a, pair_scope}
+use Rattle.language.specs.Source.{Stand, SExp, eqa_s, consp_s, STerm, call_s, conditional_s, SParam, SDef, params, place_of, functions, prog_of}
+use Rattle.language.specs.ProgramCheck.{reach_e, reach_ea, reach_args, term_twice, new_e, new_a, term_rebound, term_verdict}
 use Rattle.syntax.specs.Twins.Standing.{WordAt, NameAt, ExpAt, symbol_at, cons_at, ExpsAt, ConditionAt, TermAt, call_at, if_at, result_at, ParamsAt, DefAt, define_at, HeadsAt}
 use Rattle.syntax.specs.Twins.Standing as at
 use Rattle.verdicts.specs.declared.found.Verdict.{Verdict}
-use Rattle.verdicts.specs.declared.found.Verdict.TheVariants.{Fine, Fault}
+use Rattle.verdicts.specs.declared.found.Verdict.TheVariants.{Fine}
 use Rattle.verdicts.specs.declared.found.Walked.{Walked}
 use Rattle.checker.specs.declared.check.Names.{Names}
 use Rattle.checker.specs.Twins.CheckAt as check

@@ -1,20 +1,19 @@
 -- What holds of every token of a text: a fixed word is plain, and a word that fits as a name, a symbol or a numeral is no bracket.
-use Prim.Native.Nat.{ℕ, zero, suc, ◌+◌, ◌≤◌, ◌<◌}
+use Prim.Native.Nat.{ℕ, zero, suc, ◌≤◌, ◌<◌}
 use Prim.Native.String.{String}
-use mathlib.Core.Path.{◌≡◌, refl, ap, subst, ◌∙◌, sym as inv}
+use mathlib.Core.Path.{◌≡◌, refl, ap, ◌∙◌, sym as inv}
 use mathlib.Core.Bool.{Bool, true, false, ◌&&◌, ◌||◌, not, false≢true}
 use mathlib.Core.List.{List, [], ◌∷◌}
 use native.Mathlib.Omega.{arith}
 use lib.Dec.{eqb, ltb}
 use lib.ListN.{length, get_or}
-use borrow.Author.Tests.{eqb-true, ne_eqb, ltb-true, ltb-false}
+use borrow.Author.Tests.{ne_eqb, ltb-true, ltb-false}
 use Rattle.expressions.proofs.Tests.{and_both}
 use Rattle.language.specs.Bytes.{txt}
 use Rattle.language.specs.Words.{Word, same, Fit, fits, broken, long, many}
-use Rattle.language.specs.Tokens.{Piece, plain, kind_of, same_kind, key_in, key_of, fixed_words, Text, of_program, of_job, fit_of, Token, token, tokens_from, tokens, symbols_of, names_of, cut}
+use Rattle.language.specs.Tokens.{Piece, plain, kind_of, same_kind, key_in, key_of, fixed_words, Text, of_program, of_job, fit_of, tokens_from, tokens, symbols_of, names_of, cut}
 use Rattle.language.specs.Reader.{is_a}
 use Rattle.grammar.specs.Twins.Positions.{nothing}
-use Rattle.syntax.specs.Twins.Ends.{opens, closes}
 use Rattle.syntax.proofs.Tracks.{token_at}
 use Rattle.syntax.proofs.JobLaws.{Fixed}
 use Rattle.syntax.proofs.EndsLaws.{Unbracketed}

@@ -1,20 +1,19 @@
 -- The readers by position do what the readers of token lists do: `Tracks m p` says that p does by index what m does by list.
-use Prim.Native.Nat.{ℕ, zero, suc, ◌+◌, ◌-◌, ◌≤◌, ◌<◌}
+use Prim.Native.Nat.{ℕ, zero, suc, ◌+◌, ◌-◌, ◌≤◌}
 use Prim.Native.String.{String}
-use mathlib.Core.Path.{◌≡◌, refl, ap, subst, ◌∙◌, sym as inv}
-use mathlib.Core.Bool.{Bool, true, false, cond}
+use mathlib.Core.Path.{◌≡◌, refl, ap, ◌∙◌, sym as inv}
+use mathlib.Core.Bool.{Bool, true, false}
 use mathlib.Core.List.{List, [], ◌∷◌}
 use native.Mathlib.Omega.{arith}
 use lib.ListN.{length, drop, get_or, length-drop}
 use lib.Seq.{drop-drop, get_or-drop}
-use Rattle.language.specs.Bytes.{Refusal}
 use Rattle.language.specs.Words.{Fit, fits, broken, long, many}
 use Rattle.language.specs.Tokens.{Token}
 use Rattle.language.specs.Reader.{Res, ok, refused, and_then, Reader, ◌>>=◌, ◌>>◌, give, judged, take, is, wrong, next, pick, choose, many_in, up_to}
 use Rattle.words.specs.declared.got.Got.{Got}
 use Rattle.words.specs.declared.got.Got.TheVariants.{Past, Refused}
 use Rattle.grammar.specs.Twins.Positions.{on_past, judged_at, nothing, seq_p, pick_p, take_p, wrong_p, choose_p, many_p, up_to_p}
-use Rattle.syntax.proofs.Advances.{Advance, Advances, many_in_advances}
+use Rattle.syntax.proofs.Advances.{Advances, many_in_advances}
 
 -- the readers by position of a list of tokens
 module _ (ts : List Token) where

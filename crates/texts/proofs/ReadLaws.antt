@@ -6,7 +6,7 @@ use mathlib.Core.List.{List}
 use Rattle.words.specs.Twins.Cutting.{bytes_at}
 use Rattle.lexer.specs.Twins.Lexed.{State, Out}
 use Rattle.lent.specs.Storage.{zeros, roomy}
-use Rattle.texts.specs.Twins.ReadCells.{ReadAnswer, ReadOut, untouched, cleared, after_cut, after_bytes, if_roomy, program_cut, program_cells, job_cut, job_cells}
+use Rattle.texts.specs.Twins.ReadCells.{ReadAnswer, ReadOut, untouched, after_cut, after_bytes, if_roomy, program_cut, program_cells, job_cut, job_cells}
 use Rattle.syntax.specs.Twins.ReadAnswer.{program_judged, job_judged}
 use Rattle.words.specs.declared.got.Got.{Got}
 use Rattle.words.specs.declared.got.Got.TheVariants.{Past, Refused}

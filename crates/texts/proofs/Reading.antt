@@ -1,22 +1,21 @@
 -- What the readers answer and leave is what the texts are read as: `program-reads`, `job-reads`.
-use Prim.Native.Nat.{ℕ, ◌≤◌, ◌<◌}
-use mathlib.Core.Path.{◌≡◌, refl, ap, ap₂, ◌∙◌, sym, subst}
-use mathlib.Core.Bool.{Bool, true, false, cond, true≢false, false≢true}
+use Prim.Native.Nat.{ℕ, ◌≤◌}
+use mathlib.Core.Path.{◌≡◌, refl, ap, ◌∙◌, sym, subst}
+use mathlib.Core.Bool.{Bool, true, false, cond, false≢true}
 use mathlib.Core.List.{List, []}
 use lib.Dec.{leb, ltb}
 use lib.ListN.{length, replicate}
-use borrow.Author.Tests.{leb-true, ltb-true, ltb-false}
+use borrow.Author.Tests.{leb-true, ltb-false}
 use Rattle.language.specs.Reader.{Res, ok, refused}
 use Rattle.language.specs.Source.{SProg, SJob}
 use Rattle.language.specs.Tokens.{symbols_of}
 use Rattle.language.specs.Words.{Word}
-use Rattle.language.specs.JobCheck.{Tool, lister, runner}
 use Rattle.language.specs.Reading.{read_program, read_job}
 use Rattle.words.specs.Twins.Cutting.{bytes_at}
-use Rattle.lexer.specs.Twins.Lexed.{State, starting, cut_from}
-use Rattle.syntax.specs.Twins.ReadAnswer.{res_got, program_judged, job_judged}
-use Rattle.lent.specs.Storage.{zeros, roomy}
-use Rattle.texts.specs.Twins.ReadCells.{ReadAnswer, ReadOut, untouched, cleared, kept, after_cut, after_bytes, if_roomy, program_cut, program_cells, job_cut, job_cells, read_as, program_reading, tool_of, job_reading, ProgramLeft}
+use Rattle.lexer.specs.Twins.Lexed.{State, starting}
+use Rattle.syntax.specs.Twins.ReadAnswer.{res_got, job_judged}
+use Rattle.lent.specs.Storage.{roomy}
+use Rattle.texts.specs.Twins.ReadCells.{ReadAnswer, ReadOut, cleared, after_cut, if_roomy, program_cut, program_cells, job_cut, job_cells, read_as, program_reading, tool_of, job_reading, ProgramLeft}
 use Rattle.words.specs.declared.got.Got.{Got}
 use Rattle.lent.specs.declared.read.Read.{Read}
 use Rattle.words.specs.declared.got.Got.TheVariants.{Past, Refused}

@@ -6,7 +6,7 @@ use Rattle.std.proofs.Math.Bool.{true, false, cond, not}
 use Rattle.std.proofs.Math.Dec.{eqb}
 use Rattle.language.specs.Tokens.{symbol, aname, evariable, avariable, tag}
 use Rattle.verdicts.specs.declared.found.Verdict.{Verdict}
-use Rattle.verdicts.specs.declared.found.Verdict.TheVariants.{Fine, Fault}
+use Rattle.verdicts.specs.declared.found.Verdict.TheVariants.{Fine}
 use Rattle.verdicts.specs.declared.found.Walked.{Walked}
 use Rattle.verdicts.specs.declared.found.Args.{Args}
 use Rattle.checker.specs.Twins.CheckAt.{first, judge, ahead, walked, arguments, pick}

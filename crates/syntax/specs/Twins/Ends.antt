@@ -1,6 +1,6 @@
 -- The index past a part of a text, by its brackets alone: for who skips a branch.
 -- proofs/EndsLaws.antt: it is the index past an expression, a condition or a term.
-use Rattle.std.specs.Prelude.{ℕ, zero, suc, ◌+◌, ◌-◌, Bool, true, false, cond, ◌||◌, List, eqb, leb, set}
+use Rattle.std.specs.Prelude.{ℕ, zero, suc, ◌+◌, ◌-◌, Bool, cond, ◌||◌, List, eqb, leb, set}
 use Rattle.words.specs.Twins.Marks.{cell_of}
 
 module _ (key : ℕ → ℕ) where

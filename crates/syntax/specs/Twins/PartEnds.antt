@@ -1,6 +1,6 @@
 -- Where the parts of a job stand, by its brackets, and its numerals: for who walks an accepted job.
 -- proofs/PartLaws.antt: so they are.
-use Rattle.std.specs.Prelude.{ℕ, ◌+◌, ◌-◌, List}
+use Rattle.std.specs.Prelude.{ℕ, ◌-◌, List}
 use Rattle.checker.specs.Twins.CheckAt.{ahead}
 use Rattle.syntax.specs.Twins.Ends.{past_at}
 use Rattle.job_checker.specs.Twins.JobStored.{val_at}

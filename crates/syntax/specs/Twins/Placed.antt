@@ -1,10 +1,10 @@
 -- Where the parts of an accepted program stand in its tokens, without offsets: for who evaluates a program by its tokens.
 -- `tok i` is the token at i, of n; fs are the names of the functions, in the order of their definitions.
 -- proofs/Placed.antt: the program that a text was read as is placed so.
-use Rattle.std.specs.Prelude.{ℕ, zero, suc, ◌+◌, ◌≡◌, Bool, true, false, List, [], ◌∷◌, get_or}
+use Rattle.std.specs.Prelude.{ℕ, ◌+◌, ◌≡◌, Bool, true, false, List, [], ◌∷◌, get_or}
 use Rattle.expressions.specs.Expression.{sym, avar, Exp, atm, evar, pair}
 use Rattle.language.specs.Program.{Condition, eqa, consp, Term, call, conditional, result, Param, pe, pa, Def, Prog}
-use Rattle.language.specs.Tokens.{symbol, ename, aname, plain, Text, of_program, of_job, Token}
+use Rattle.language.specs.Tokens.{symbol, ename, aname, plain, Text, of_program, Token}
 use Rattle.language.specs.Reader.{is}
 use Rattle.language.specs.Source.{place_of}
 use Rattle.syntax.specs.Twins.Standing.{WordAt, NameAt, e_kind, a_kind}

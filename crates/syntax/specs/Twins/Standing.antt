@@ -1,7 +1,7 @@
 -- What stands where in a text: each part of what the grammar reads, with the index of its first token and the index past its last.
 -- `tok i` is the token at i, of n. `room` is how many more brackets may stand open, as in the grammar.
 -- proofs/Standing.antt: what the grammar reads stands so.
-use Rattle.std.specs.Prelude.{ℕ, zero, suc, ◌+◌, ◌<◌, ◌≤◌, ◌≡◌, Bool, true, false, List, [], ◌∷◌, length, get_or}
+use Rattle.std.specs.Prelude.{ℕ, suc, ◌+◌, ◌<◌, ◌≤◌, ◌≡◌, true, false, List, [], ◌∷◌, length, get_or}
 use Prim.Native.String.{String}
 use Rattle.language.specs.Words.{fits}
 use Rattle.language.specs.Tokens.{Kind, symbol, ename, aname, evariable, avariable, plain, Text, of_program, of_job, Token}

@@ -1,5 +1,5 @@
 -- What reading and checking a text comes to in storage: the answer, and what each storage holds afterwards.
-use Rattle.std.specs.Prelude.{ℕ, zero, suc, ◌≡◌, Bool, true, false, List, []}
+use Rattle.std.specs.Prelude.{ℕ, ◌≡◌, Bool, true, false, List, []}
 use Rattle.language.specs.Reader.{Res, ok, refused}
 use Rattle.language.specs.Source.{SProg}
 use Rattle.language.specs.Tokens.{symbols_of}

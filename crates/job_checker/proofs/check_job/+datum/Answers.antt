@@ -1,7 +1,5 @@
 use borrow.Author.Tests.{eq-eqb, ne_eqb}
 use Rattle.job_checker.proofs.JobOpenings.{datum_more, datum_none}
-use borrow.Author.Rules.{rules}
-use Prim.Native.Nat.{ℕ, ◌<◌}
 use Rattle.job_checker.proofs.check_job.+datum.Goals as goal
 
 pub returns-then-room-eq0 : goal.returns-then-room-eq0

@@ -1,5 +1,4 @@
 use Rattle.job_checker.specs.Twins.JobCheckAt.{elevens_at}
-use borrow.Author.Rules.{rules}
 use Rattle.job_checker.proofs.check_job.elevens.Goals as goal
 
 pub returns : goal.returns

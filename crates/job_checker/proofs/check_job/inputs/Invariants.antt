@@ -1,11 +1,7 @@
 use mathlib.Core.Path.{◌≡◌}
 use mathlib.Core.Bool.{true}
 use Rattle.verdicts.specs.declared.found.Verdict.TheVariants.{Fine}
-use borrow.Author.Tests.{eq-eqb, ne_eqb}
 use Rattle.job_checker.specs.Twins.JobStored.{inputs_at}
-use Rattle.job_checker.proofs.JobOpenings.{inputs_more, inputs_none}
-use Rattle.checker.proofs.CheckOpenings.{not_zero, is_zero}
-use borrow.Author.Rules.{rules}
 use Rattle.job_checker.proofs.check_job.inputs.Given as goal
 
 abbrev pub invariant-loop-left : goal.invariant-loop-left

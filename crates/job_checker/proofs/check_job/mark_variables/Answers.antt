@@ -1,5 +1,4 @@
-use mathlib.Core.Path.{◌≡◌, refl, ap, ap₂, sym, ◌∙◌}
-use mathlib.Core.Bool.{true, false}
+use mathlib.Core.Path.{ap, sym, ◌∙◌}
 use Prim.Native.Nat.{◌+◌, ◌-◌}
 use lib.ListN.{length, set, length-set}
 use lib.Dec.{eqb}
@@ -7,7 +6,6 @@ use borrow.Author.Tests.{eq-eqb, ne_eqb}
 use Rattle.checker.specs.Twins.StoredAt.{tag_at, num_at}
 use Rattle.job_checker.specs.Twins.JobCheckAt.{marked_from}
 use Rattle.job_checker.proofs.JobOpenings.{marked_none, marked_here, marked_on}
-use borrow.Author.Rules.{rules}
 use Rattle.job_checker.proofs.check_job.mark_variables.Goals as goal
 
 pub loop-at-preserved-then-kind-eq-AVARIABLE : goal.loop-at-preserved-then-kind-eq-AVARIABLE

@@ -1,13 +1,8 @@
-use mathlib.Core.Path.{◌≡◌, refl, ap, ap₂, sym, ◌∙◌}
-use mathlib.Core.Bool.{true, false}
-use Prim.Native.Nat.{◌+◌, ◌-◌}
-use lib.ListN.{length, set, length-set}
-use lib.Dec.{eqb}
-use borrow.Author.Tests.{eq-eqb, ne_eqb}
+use mathlib.Core.Path.{◌≡◌}
+use Prim.Native.Nat.{◌-◌}
+use lib.ListN.{length}
 use Rattle.checker.specs.Twins.StoredAt.{tag_at, num_at}
 use Rattle.job_checker.specs.Twins.JobCheckAt.{marked_from}
-use Rattle.job_checker.proofs.JobOpenings.{marked_none, marked_here, marked_on}
-use borrow.Author.Rules.{rules}
 use Rattle.job_checker.proofs.check_job.mark_variables.Given as goal
 
 abbrev pub invariant-loop-at : goal.invariant-loop-at

@@ -1,9 +1,6 @@
-use mathlib.Core.Path.{◌≡◌}
 use borrow.Author.Tests.{le-leb, le-ltb, lt-leb, lt-ltb}
-use Rattle.job_checker.specs.Twins.JobStored.{numeral_from}
 use Rattle.job_checker.proofs.JobOpenings.{numeral_more, numeral_none}
 use Rattle.checker.proofs.CheckOpenings.{not_zero, is_zero}
-use borrow.Author.Rules.{rules}
 use Rattle.job_checker.proofs.check_job.numeral.Goals as goal
 
 pub returns-then-b-lt48 : goal.returns-then-b-lt48

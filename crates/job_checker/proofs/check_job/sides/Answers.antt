@@ -1,9 +1,6 @@
-use mathlib.Core.Path.{◌≡◌}
 use borrow.Author.Tests.{eq-eqb, ne_eqb}
-use Rattle.job_checker.specs.Twins.JobStored.{sides_at}
 use Rattle.job_checker.proofs.JobOpenings.{sides_more, sides_none}
 use Rattle.checker.proofs.CheckOpenings.{not_zero, is_zero}
-use borrow.Author.Rules.{rules}
 use Rattle.job_checker.proofs.check_job.sides.Goals as goal
 
 pub returns-then-key-eq-CLOSE : goal.returns-then-key-eq-CLOSE

@@ -1,9 +1,5 @@
 use mathlib.Core.Path.{◌≡◌}
-use borrow.Author.Tests.{eq-eqb, ne_eqb}
 use Rattle.job_checker.specs.Twins.JobStored.{sides_at}
-use Rattle.job_checker.proofs.JobOpenings.{sides_more, sides_none}
-use Rattle.checker.proofs.CheckOpenings.{not_zero, is_zero}
-use borrow.Author.Rules.{rules}
 use Rattle.job_checker.proofs.check_job.sides.Given as goal
 
 abbrev pub invariant-loop-left : goal.invariant-loop-left

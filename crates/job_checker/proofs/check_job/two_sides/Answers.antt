@@ -1,5 +1,4 @@
 use Rattle.job_checker.specs.Twins.JobCheckAt.{two_sides}
-use borrow.Author.Rules.{rules}
 use Rattle.job_checker.proofs.check_job.two_sides.Goals as goal
 
 pub returns : goal.returns

@@ -1,9 +1,4 @@
-use mathlib.Core.Path.{◌≡◌}
-use Prim.Native.Nat.{◌-◌}
-use Rattle.verdicts.specs.declared.found.Verdict.TheVariants.{Fine}
-use Rattle.checker.specs.Twins.CheckStored.{bodies_at}
-use Rattle.checker.proofs.CheckOpenings.{whole_count, bodies_more, bodies_none}
-use borrow.Author.Rules.{rules}
+use Rattle.checker.proofs.CheckOpenings.{bodies_more, bodies_none}
 use Rattle.programs.proofs.check_program.bodies.Goals as goal
 
 pub loop-j-preserved : goal.loop-j-preserved

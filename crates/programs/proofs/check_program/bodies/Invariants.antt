@@ -2,8 +2,6 @@ use mathlib.Core.Path.{◌≡◌}
 use Prim.Native.Nat.{◌-◌}
 use Rattle.verdicts.specs.declared.found.Verdict.TheVariants.{Fine}
 use Rattle.checker.specs.Twins.CheckStored.{bodies_at}
-use Rattle.checker.proofs.CheckOpenings.{whole_count, bodies_more, bodies_none}
-use borrow.Author.Rules.{rules}
 use Rattle.programs.proofs.check_program.bodies.Given as goal
 
 abbrev pub invariant-loop-j : goal.invariant-loop-j

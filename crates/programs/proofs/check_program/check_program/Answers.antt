@@ -1,5 +1,4 @@
 use Rattle.checker.specs.Twins.CheckAt.{program_at}
-use borrow.Author.Rules.{rules}
 use Rattle.programs.proofs.check_program.check_program.Goals as goal
 
 pub returns : goal.returns

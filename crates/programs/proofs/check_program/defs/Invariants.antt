@@ -1,8 +1,5 @@
 use mathlib.Core.Path.{◌≡◌}
-use borrow.Author.Tests.{eq-eqb, ne_eqb}
 use Rattle.checker.specs.Twins.CheckStored.{defs_at}
-use Rattle.checker.proofs.CheckOpenings.{not_zero, is_zero, defs_more, defs_none}
-use borrow.Author.Rules.{rules}
 use Rattle.programs.proofs.check_program.defs.Given as goal
 
 abbrev pub invariant-loop-more : goal.invariant-loop-more

@@ -1,12 +1,10 @@
-use mathlib.Core.Path.{◌≡◌, refl, ap, ◌∙◌, sym}
+use mathlib.Core.Path.{ap, ◌∙◌, sym}
 use Prim.Native.Nat.{◌-◌}
 use lib.Dec.{eqb}
 use borrow.Author.Tests.{eq-eqb, ne_eqb}
 use Rattle.checker.specs.Twins.StoredAt.{key_at}
 use Rattle.checker.specs.Twins.CheckStored.{params_at}
-use Rattle.checker.specs.Twins.CheckAt.{no_names, names}
 use Rattle.checker.proofs.CheckOpenings.{not_zero, is_zero, params_more, params_none, params_put}
-use borrow.Author.Rules.{rules}
 use Rattle.programs.proofs.check_program.params.Goals as goal
 
 pub returns-then-key-eq-CLOSE_LIST : goal.returns-then-key-eq-CLOSE_LIST

@@ -1,8 +1,5 @@
-use mathlib.Core.Path.{◌≡◌}
 use borrow.Author.Tests.{eq-eqb, ne_eqb}
-use Rattle.checker.specs.Twins.CheckStored.{params_end}
 use Rattle.checker.proofs.CheckOpenings.{not_zero, is_zero, end_more, end_none}
-use borrow.Author.Rules.{rules}
 use Rattle.programs.proofs.check_program.params_end.Goals as goal
 
 pub returns-then-key-eq-CLOSE_LIST : goal.returns-then-key-eq-CLOSE_LIST

@@ -1,14 +1,11 @@
-use mathlib.Core.Path.{◌≡◌, refl, ap, ◌∙◌, sym}
-use Prim.Native.Nat.{ℕ, ◌-◌}
+use mathlib.Core.Path.{ap, ◌∙◌, sym}
+use Prim.Native.Nat.{◌-◌}
 use lib.Dec.{eqb}
-use lib.ListN.{length, length-replicate}
 use borrow.Author.Tests.{eq-eqb, ne_eqb}
 use Rattle.checker.specs.Twins.StoredAt.{key_at, tag_at, num_at, at_at}
 use Rattle.checker.specs.Twins.CheckStored.{params_twice}
-use Rattle.checker.specs.Twins.CheckAt.{no_names, names}
 use Rattle.checker.proofs.CheckOpenings.{not_zero, is_zero, twice_more, twice_none, twice_put}
 use Rattle.checker.proofs.ReachLaws.{put_kept}
-use borrow.Author.Rules.{rules}
 use Rattle.programs.proofs.check_program.params_twice.Goals as goal
 
 pub returns-then-key-eq-CLOSE_LIST : goal.returns-then-key-eq-CLOSE_LIST

@@ -1,10 +1,7 @@
 use native.Mathlib.Nat.{le_refl}
-use native.Mathlib.Omega.{arith}
 use borrow.Author.Tests.{eq-eqb, ne_eqb}
 use Rattle.checker.proofs.CheckOpenings.{term_more, term_none}
 use Rattle.checker.proofs.ReachLaws.{at_most, kept_all, kept_on, put_kept, put_more, term_kept, consp_found, by_way}
-use borrow.Author.Rules.{rules}
-use Prim.Native.Nat.{ℕ, ◌+◌, ◌<◌}
 use Rattle.programs.proofs.check_terms.+consp_eqa_term.Goals as goal
 
 pub consp-returns : goal.consp-returns

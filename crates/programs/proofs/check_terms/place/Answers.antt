@@ -1,9 +1,5 @@
-use mathlib.Core.Path.{◌≡◌}
-use Prim.Native.Nat.{◌-◌}
 use borrow.Author.Tests.{eq-eqb, ne_eqb}
-use Rattle.checker.specs.Twins.CheckStored.{place_at}
 use Rattle.checker.proofs.CheckOpenings.{place_more, place_none}
-use borrow.Author.Rules.{rules}
 use Rattle.programs.proofs.check_terms.place.Goals as goal
 
 pub returns-then-num-x : goal.returns-then-num-x

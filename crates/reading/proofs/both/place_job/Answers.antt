@@ -1,5 +1,4 @@
 use Rattle.reading.proofs.BothTurns.{placed_is}
-use borrow.Author.Rules.{rules}
 use Rattle.reading.proofs.both.place_job.Goals as goal
 
 pub returns : goal.returns

@@ -1,5 +1,4 @@
 use Rattle.reading.proofs.BothTurns.{both_roomy_lem, both_short}
-use borrow.Author.Rules.{rules}
 use Rattle.reading.proofs.both.read_both.Goals as goal
 
 pub returns-then-room_for_both : goal.returns-then-room_for_both

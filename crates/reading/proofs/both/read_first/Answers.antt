@@ -1,5 +1,4 @@
 use Rattle.reading.proofs.BothTurns.{first_refused, first_short, first_accepted}
-use borrow.Author.Rules.{rules}
 use Rattle.reading.proofs.both.read_first.Goals as goal
 
 pub returns-in-Refused : goal.returns-in-Refused

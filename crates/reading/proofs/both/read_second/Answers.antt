@@ -1,5 +1,4 @@
 use Rattle.reading.proofs.BothTurns.{second_refused, second_short, second_accepted}
-use borrow.Author.Rules.{rules}
 use Rattle.reading.proofs.both.read_second.Goals as goal
 
 pub returns-in-Refused : goal.returns-in-Refused

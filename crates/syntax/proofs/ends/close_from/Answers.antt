@@ -1,11 +1,8 @@
-use mathlib.Core.Path.{◌≡◌, refl, sym, ◌∙◌}
-use Prim.Native.Nat.{◌-◌, ◌≤◌}
+use mathlib.Core.Path.{sym, ◌∙◌}
 use native.Mathlib.Omega.{arith}
 use borrow.Author.Tests.{leb-true, leb-false}
 use Rattle.checker.specs.Twins.StoredAt.{key_at}
-use Rattle.syntax.specs.Twins.Ends.{close_from}
 use Rattle.syntax.proofs.PartOpenings.{close_end, close_deeper, close_word, close_last, close_higher}
-use borrow.Author.Rules.{rules}
 use Rattle.syntax.proofs.ends.close_from.Goals as goal
 
 pub loop-i-preserved-then-is_open : goal.loop-i-preserved-then-is_open

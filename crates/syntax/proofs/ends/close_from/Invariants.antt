@@ -1,11 +1,7 @@
-use mathlib.Core.Path.{◌≡◌, refl, sym, ◌∙◌}
+use mathlib.Core.Path.{◌≡◌}
 use Prim.Native.Nat.{◌-◌, ◌≤◌}
-use native.Mathlib.Omega.{arith}
-use borrow.Author.Tests.{leb-true, leb-false}
 use Rattle.checker.specs.Twins.StoredAt.{key_at}
 use Rattle.syntax.specs.Twins.Ends.{close_from}
-use Rattle.syntax.proofs.PartOpenings.{close_end, close_deeper, close_word, close_last, close_higher}
-use borrow.Author.Rules.{rules}
 use Rattle.syntax.proofs.ends.close_from.Given as goal
 
 abbrev pub invariant-loop-i : goal.invariant-loop-i

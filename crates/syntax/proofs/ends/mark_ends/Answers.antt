@@ -1,13 +1,10 @@
-use mathlib.Core.Path.{◌≡◌, refl, ap, sym, ◌∙◌}
+use mathlib.Core.Path.{ap, sym, ◌∙◌}
 use Prim.Native.Nat.{◌+◌, ◌-◌}
-use native.Mathlib.Nat.{sub-zero}
-use native.Mathlib.Omega.{arith}
 use lib.ListN.{length, set, length-set}
 use Rattle.words.specs.Twins.Marks.{cell_of}
 use Rattle.checker.specs.Twins.StoredAt.{key_at}
 use Rattle.syntax.specs.Twins.Ends.{ends_from}
 use Rattle.syntax.proofs.PartOpenings.{ends_none, ends_more}
-use borrow.Author.Rules.{rules}
 use Rattle.syntax.proofs.ends.mark_ends.Goals as goal
 
 pub loop-i-preserved : goal.loop-i-preserved

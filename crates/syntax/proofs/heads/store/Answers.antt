@@ -1,11 +1,9 @@
-use mathlib.Core.Path.{◌≡◌, refl, ap, sym, ◌∙◌}
+use mathlib.Core.Path.{ap, sym, ◌∙◌}
 use Prim.Native.Nat.{◌+◌, ◌-◌}
-use native.Mathlib.Nat.{sub-zero}
 use lib.ListN.{length, set, length-set}
 use Rattle.words.specs.Twins.Marks.{cell_of}
 use Rattle.syntax.specs.Twins.Heads.{heads_from}
 use Rattle.syntax.proofs.PartOpenings.{heads_none, heads_more}
-use borrow.Author.Rules.{rules}
 use Rattle.syntax.proofs.heads.store.Goals as goal
 
 pub loop-j-preserved : goal.loop-j-preserved

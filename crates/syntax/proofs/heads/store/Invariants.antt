@@ -1,11 +1,7 @@
-use mathlib.Core.Path.{◌≡◌, refl, ap, sym, ◌∙◌}
-use Prim.Native.Nat.{◌+◌, ◌-◌}
-use native.Mathlib.Nat.{sub-zero}
-use lib.ListN.{length, set, length-set}
-use Rattle.words.specs.Twins.Marks.{cell_of}
+use mathlib.Core.Path.{◌≡◌}
+use Prim.Native.Nat.{◌-◌}
+use lib.ListN.{length}
 use Rattle.syntax.specs.Twins.Heads.{heads_from}
-use Rattle.syntax.proofs.PartOpenings.{heads_none, heads_more}
-use borrow.Author.Rules.{rules}
 use Rattle.syntax.proofs.heads.store.Given as goal
 
 abbrev pub invariant-loop-j : goal.invariant-loop-j

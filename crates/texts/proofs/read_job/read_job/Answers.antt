@@ -1,7 +1,6 @@
 use mathlib.Core.Path.{refl, sym, ◌∙◌}
 use Rattle.texts.proofs.ReadLaws.{job_short, job_bytes_lem}
 use Rattle.texts.proofs.Reading.{job_out}
-use borrow.Author.Rules.{rules}
 use Rattle.texts.proofs.read_job.read_job.Goals as goal
 
 pub returns-then-not-long_enough : goal.returns-then-not-long_enough

@@ -1,7 +1,6 @@
 use mathlib.Core.Path.{refl, sym, ◌∙◌}
 use Rattle.texts.proofs.ReadLaws.{program_short, program_bytes_lem}
 use Rattle.texts.proofs.Reading.{program_out}
-use borrow.Author.Rules.{rules}
 use Rattle.texts.proofs.read_program.read_program.Goals as goal
 
 pub returns-then-not-long_enough : goal.returns-then-not-long_enough

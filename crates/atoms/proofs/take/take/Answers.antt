@@ -1,0 +1,7 @@
+use Rattle.atoms.specs.Twins.Taking.{taken_by}
+use borrow.Author.Rules.{rules}
+use Rattle.atoms.proofs.take.take.Goals as goal
+
+pub returns : goal.returns
+unfolding taken_by
+returns c = rw (← c.placed-d.ensures, ← c.contract.ensures)

@@ -1,0 +1,7 @@
+use Rattle.atoms.specs.Twins.Taking.{equal_taken}
+use borrow.Author.Rules.{rules}
+use Rattle.atoms.proofs.take.take_equal.Goals as goal
+
+pub returns : goal.returns
+unfolding equal_taken
+returns c = rw (← c.link_at-l.ensures, ← c.wide-place.ensures.0, ← c.equality_contraction-k.ensures, ← c.take.ensures)

@@ -1,0 +1,7 @@
+use Rattle.atoms.specs.Twins.Taking.{unequal_taken}
+use borrow.Author.Rules.{rules}
+use Rattle.atoms.proofs.take.take_unequal.Goals as goal
+
+pub returns : goal.returns
+unfolding unequal_taken
+returns c = rw (← c.link_at-l.ensures, ← c.wide-place.ensures.0, ← c.take.ensures)

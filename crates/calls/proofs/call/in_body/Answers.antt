@@ -1,0 +1,7 @@
+use borrow.Author.Rules.{rules}
+use Rattle.calls.specs.Twins.Calls.{in_body}
+use Rattle.calls.proofs.call.in_body.Goals as goal
+
+pub returns : goal.returns
+unfolding in_body
+returns c = rw (← c.least.ensures, ← c.least-2.ensures)

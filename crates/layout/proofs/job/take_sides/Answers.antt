@@ -1,0 +1,11 @@
+use Rattle.layout.specs.Twins.Laying.{sides_taken}
+use borrow.Author.Rules.{rules}
+use Rattle.layout.proofs.job.take_sides.Goals as goal
+
+pub returns-then-copy : goal.returns-then-copy
+unfolding sides_taken
+returns-then-copy c = rw (← c.least.ensures, ← c.copy.ensures.0, c.if-copy.true, ← c.copy.ensures.1, ← c.simplify.ensures.0, ← c.simplify.ensures.1)
+
+pub returns : goal.returns
+unfolding sides_taken
+returns c = rw (← c.least.ensures, ← c.copy.ensures.0, c.if-copy.false, ← c.copy.ensures.1)

@@ -1,0 +1,7 @@
+use Rattle.looking.specs.Twins.Taking.{atom_taken}
+use borrow.Author.Rules.{rules}
+use Rattle.looking.proofs.take.take_atom.Goals as goal
+
+pub returns : goal.returns
+unfolding atom_taken
+returns c = rw (← c.link_at-l.ensures, ← c.push_entry-p.ensures, ← c.placed_with.ensures)

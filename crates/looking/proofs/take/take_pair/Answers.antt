@@ -1,0 +1,7 @@
+use Rattle.looking.specs.Twins.Taking.{pair_taken}
+use borrow.Author.Rules.{rules}
+use Rattle.looking.proofs.take.take_pair.Goals as goal
+
+pub returns : goal.returns
+unfolding pair_taken
+returns c = rw (← c.link_at-l.ensures, ← c.bind_parts-p.ensures, ← c.placed_with.ensures)
