@@ -1,4 +1,4 @@
-// Links the archive that `rt staticlib bindings` writes.
+// Links the archive that `tools/archive` writes.
 use std::path::PathBuf;
 
 fn main() {
@@ -10,7 +10,7 @@ fn main() {
     // Said here, where the command is known: the linker would only say that it finds no library of this name.
     if !archive.is_file() {
         println!("cargo::error=the resolver's archive {} is missing", archive.display());
-        println!("cargo::error=make it with `rt staticlib bindings` in {}, which also proves it", root.display());
+        println!("cargo::error=make it with `tools/archive` in {}, which also proves it", root.display());
         return;
     }
     println!("cargo::rustc-link-search=native={}", folder.display());

@@ -31,11 +31,15 @@ mod storage;
 
 use cases::{find, line_from};
 use cells::part::part;
-use libc::STDIN_FILENO;
 use notation::{expand, numeral};
 use printer::print;
 use reading::{Said, read_case};
 use shortage::{short_job, short_program};
+use std::io;
+use streams::reading::read_full;
+
+// Room for the text of cases.
+const CASES: usize = 65536;
 
 // Room for more than a text may have.
 const PROGRAM_ROOM: usize = 32800;
@@ -81,7 +85,7 @@ fn said(program: &[u8], job: &[u8], runs: bool, short: usize) -> Said {
 }
 
 // Writes both texts of a case out, and prints what the readers say.
-fn answer(case: &[u8]) {
+fn answer(to: &impl Print, case: &[u8]) -> io::Result<()> {
     let mut program_space = [0u8; PROGRAM_ROOM];
     let mut job_space = [0u8; JOB_ROOM];
     let program: &mut [u8] = &mut program_space;
@@ -99,21 +103,22 @@ fn answer(case: &[u8]) {
         runs(case),
         short(case),
     );
-    print(title(case), told);
+    print(to, title(case), told)
 }
 
 // The cases: each goes up to the next title.
-fn answers(text: &[u8]) {
+fn answers(to: &impl Print, text: &[u8]) -> io::Result<()> {
     let mut from = line_from(text, 0, b'#');
     while from < text.len() {
         let end = line_from(text, find(text, from, b'\n') + 1, b'#');
-        answer(part(text, from, end));
+        answer(to, part(text, from, end))?;
         from = end;
     }
+    Ok(())
 }
 
-fn main() {
-    let mut text = io::large_buffer();
-    let n = io::read_full(STDIN_FILENO, &mut text);
-    answers(&text[..n]);
+fn main(rt: HostRuntime) -> io::Result<()> {
+    let mut text = [0u8; CASES];
+    let n = read_full(&mut rt.stdin(), &mut text)?;
+    answers(&rt.stdout(), &text[..n])
 }

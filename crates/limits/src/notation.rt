@@ -4,10 +4,11 @@ ghost use Rattle.std.specs.Prelude.{◌≤◌, ◌<◌, length};
 use crate::cases::find;
 use cells::cell::byte;
 use cells::part::part;
+use itoa::Buffer;
 use notations::repetition::behind;
 
 // How far a notation is written out: the next place in it, and the bytes that are written.
-#[derive(Drop)]
+#[derive(Clone, Copy)]
 struct Written {
     next: usize,
     bytes: usize,
@@ -69,9 +70,8 @@ fn put_all(out: &mut [u8], at: usize, bytes: &[u8]) -> usize {
 }
 
 fn put_number(out: &mut [u8], at: usize, n: usize) -> usize {
-    let mut digits = [0u8; 20];
-    let count = io::decimal(n as u64, &mut digits);
-    put_all(out, at, &digits[..count])
+    let mut digits = Buffer::new();
+    put_all(out, at, digits.format(n).as_bytes())
 }
 
 // The byte that the letter behind a `\` stands for, where that is not `x`.

@@ -1,15 +1,14 @@
 // The line of a case.
 use crate::reading::Said;
 use lent::read::Read;
-use libc::STDOUT_FILENO;
+use std::io;
 
-fn word(bytes: &[u8]) {
-    io::write_all(STDOUT_FILENO, bytes);
+fn word(to: &impl Print, bytes: &[u8]) -> io::Result<()> {
+    to.write_all(bytes)
 }
 
-fn number(n: usize) {
-    word(b" ");
-    io::print_decimal(STDOUT_FILENO, n as u64);
+fn number(to: &impl Print, n: usize) -> io::Result<()> {
+    print!(to; " {n}")
 }
 
 // How many tokens a text has, of which the storage holds one more, for its end.
@@ -18,41 +17,39 @@ fn tokens_of(stored: usize) -> usize {
 }
 
 // Which text is refused.
-fn text(job: bool) {
+fn text(to: &impl Print, job: bool) -> io::Result<()> {
     if job {
-        word(b"job");
-        return;
+        return word(to, b"job");
     }
-    word(b"program");
+    word(to, b"program")
 }
 
-fn answer(said: Said) {
-    let read = said.read;
-    match read {
+fn answer(to: &impl Print, said: &Said) -> io::Result<()> {
+    match said.read {
         Read::Accepted { tokens, symbols } => {
-            word(b"accepted");
-            number(tokens_of(said.program));
-            number(tokens_of(tokens));
-            number(symbols as usize);
+            word(to, b"accepted")?;
+            number(to, tokens_of(said.program))?;
+            number(to, tokens_of(tokens))?;
+            number(to, symbols as usize)
         }
         Read::Refused { number: n, offset } => {
-            text(said.job);
-            number(n);
-            number(offset);
+            text(to, said.job)?;
+            number(to, n)?;
+            number(to, offset)
         }
         Read::Short => {
-            text(said.job);
-            word(b" short");
+            text(to, said.job)?;
+            word(to, b" short")
         }
     }
 }
 
-pub fn print(title: &[u8], said: Said) {
-    word(title);
-    word(b": ");
-    answer(said);
+pub fn print(to: &impl Print, title: &[u8], said: Said) -> io::Result<()> {
+    word(to, title)?;
+    word(to, b": ")?;
+    answer(to, &said)?;
     if !said.sound {
-        word(b" storage!");
+        word(to, b" storage!")?;
     }
-    word(b"\n");
+    word(to, b"\n")
 }

@@ -24,7 +24,7 @@ pub fn said_of_program(
     names: &mut [u16],
 ) -> Said {
     let read = read_program(text, marks, nums, ats, symbols, names);
-    let sound = left_sound(read, marks, nums, ats, symbols, names);
+    let sound = left_sound(&read, marks, nums, ats, symbols, names);
     Said {
         program: 0,
         read,
@@ -50,7 +50,7 @@ pub fn said_of_job(
     let read = read_job(
         runs, program, main, count, text, marks, nums, ats, symbols, before, names,
     );
-    let sound = left_sound(read, marks, nums, ats, symbols, names);
+    let sound = left_sound(&read, marks, nums, ats, symbols, names);
     Said {
         program: count,
         read,
@@ -98,8 +98,7 @@ pub fn read_case(program: &[u8], text: &[u8], runs: bool) -> Said {
     if !said.sound {
         return said;
     }
-    let read = said.read;
-    let Read::Accepted { tokens, symbols } = read else {
+    let Read::Accepted { tokens, symbols } = said.read else {
         return said;
     };
     read_second(runs, program, marks, tokens, text, table, symbols)

@@ -42,7 +42,7 @@ fn all_five(
 // Whether the storages are left as 01, "From the state", has it: "20 ... nothing touched"; "Working storage is zero after each call", which is `names`, and
 // after a refusal all of them.
 pub fn left_sound(
-    read: Read,
+    read: &Read,
     marks: &[u16],
     nums: &[u16],
     ats: &[u16],

@@ -5,17 +5,23 @@
 use cells::part::part;
 use pages::files::{JOB, PROGRAM, read_file};
 use pages::output::list_texts;
+use streams::failure::fail;
 
-fn main() {
+fn main(rt: HostRuntime) {
+    let err = rt.stderr();
     let mut program_space = [0u8; PROGRAM];
     let mut job_space = [0u8; JOB];
     let program: &mut [u8] = &mut program_space;
     let job: &mut [u8] = &mut job_space;
-    let p = read_file(b"prog.tsg", program);
-    let j = read_file(b"job.txt", job);
-    let listed = list_texts(false, part(program, 0, p), part(job, 0, j));
-    let written = listed.written;
-    if !written.whole {
-        os::fail(b"standard output");
+    let p = read_file(&rt, &err, b"prog.tsg", program);
+    let j = read_file(&rt, &err, b"job.txt", job);
+    let listed = list_texts(
+        &mut rt.stdout(),
+        false,
+        part(program, 0, p),
+        part(job, 0, j),
+    );
+    if let Some(error) = listed.written.error {
+        fail(&err, b"standard output", &error);
     }
 }

@@ -20,13 +20,22 @@ ghost use Rattle.std.specs.Prelude.{◌≤◌, length};
 
 use cells::cell;
 use heap::entry;
-use libc::STDIN_FILENO;
 use meetings::class::{Class, Met, NODES};
 use meetings::unifier;
 use reader::Problem;
 use restrictions::restriction;
 use restrictions::restriction::Restricted;
 use sets::tree;
+use std::env::{Env, FillError};
+use std::io;
+use std::io::Read;
+use streams::failure::{fail, name_too_long};
+use streams::reading::{open_read, read_full};
+
+// Room for the text, and for a path.
+const TEXT: usize = 65536;
+
+const PATH: usize = 4096;
 
 // A non-equality has at least 7 bytes, so that 9,362 stand in a text: two cells each.
 const WRITTEN: usize = 18724;
@@ -66,6 +75,7 @@ fn meet(
 
 // Prints what is left: the wanted expression is the first entry.
 fn print_met(
+    out: &impl Print,
     page: &mut [u8; printer::PAGE],
     at: usize,
     text: &[u8],
@@ -74,21 +84,22 @@ fn print_met(
     frame: &[u16; 12360],
     q: &[u16; 4096],
     met: Met,
-) -> usize {
+) -> io::Result<usize> {
     match met {
         Met::Common(c) => {
             let to = cell::wide(frame[2]);
             let from = cell::least(cell::wide(frame[1]), to);
             let cells: &[u16] = heap;
-            printer::common(page, at, text, names, &cells[from..to], q, c.neqs)
+            printer::common(out, page, at, text, names, &cells[from..to], q, c.neqs)
         }
-        Met::Apart => printer::line(page, at, b"apart"),
-        Met::Over => printer::line(page, at, b"over"),
+        Met::Apart => printer::line(out, page, at, b"apart"),
+        Met::Over => printer::line(out, page, at, b"over"),
     }
 }
 
 // Prints the answer to a problem, whose cells stand in the heap and in `written`.
 fn print_answer(
+    out: &impl Print,
     page: &mut [u8; printer::PAGE],
     at: usize,
     text: &[u8],
@@ -97,10 +108,10 @@ fn print_answer(
     frame: &mut [u16; 12360],
     written: &mut [u16],
     problem: Problem,
-) -> usize {
+) -> io::Result<usize> {
     match problem {
-        Problem::Blank => at,
-        Problem::Broken(offset) => printer::broken(page, at, offset),
+        Problem::Blank => Ok(at),
+        Problem::Broken(offset) => printer::broken(out, page, at, offset),
         Problem::Whole {
             wanted,
             output,
@@ -108,25 +119,26 @@ fn print_answer(
         } => {
             let mut q = [0u16; 4096];
             let met = meet(heap, frame, written, &mut q, wanted, output, neqs);
-            print_met(page, at, text, names, heap, frame, &q, met)
+            print_met(out, page, at, text, names, heap, frame, &q, met)
         }
     }
 }
 
 // Prints the answer to a line. Nothing that stands in the heap or in the frame before is read.
 fn answer(
+    out: &impl Print,
     text: &[u8],
     page: &mut [u8; printer::PAGE],
     at: usize,
     heap: &mut [u16; 65535],
     frame: &mut [u16; 12360],
-) -> usize {
+) -> io::Result<usize> {
     let mut space = [0u16; WRITTEN];
     let mut name_space = [0usize; reader::SYMBOLS];
     let written: &mut [u16] = &mut space;
     let names: &mut [usize] = &mut name_space;
     let problem = reader::read_problem(text, heap, written, names);
-    print_answer(page, at, text, names, heap, frame, written, problem)
+    print_answer(out, page, at, text, names, heap, frame, written, problem)
 }
 
 // The end of the line that starts at `from`.
@@ -145,7 +157,7 @@ fn line_end(text: &[u8], from: usize) -> usize
 }
 
 // Prints the answer to each line.
-fn answers(text: &[u8], page: &mut [u8; printer::PAGE]) -> usize {
+fn answers(out: &impl Print, text: &[u8], page: &mut [u8; printer::PAGE]) -> io::Result<usize> {
     let mut heap = [0u16; 65535];
     let mut frame = [0u16; 12360];
     let mut k: usize = 0;
@@ -153,37 +165,37 @@ fn answers(text: &[u8], page: &mut [u8; printer::PAGE]) -> usize {
     while from < text.len() {
         let end = line_end(text, from);
         let line = &text[from..end];
-        k = answer(line, page, k, &mut heap, &mut frame);
+        k = answer(out, line, page, k, &mut heap, &mut frame)?;
         from = end + 1;
     }
-    k
+    Ok(k)
 }
 
 // Reads the text and prints the answers.
-fn run(fd: i32) {
-    let mut text = io::large_buffer();
-    let n = io::read_full(fd, &mut text);
-    let mut page = io::buffer();
-    let k = answers(&text[..n], &mut page);
-    printer::flush(&page, k);
+fn run<R: Read>(reader: &mut R, out: &impl Print) -> io::Result<()> {
+    let mut text = [0u8; TEXT];
+    let n = read_full(reader, &mut text)?;
+    let mut page = [0u8; printer::PAGE];
+    let k = answers(out, &text[..n], &mut page)?;
+    printer::flush(out, &page, k)
 }
 
-fn main() {
-    if os::arg_count() < 2 {
-        run(STDIN_FILENO);
-        return;
+// Standard input, or the file that the first argument names; standard error has why that one cannot be opened.
+fn main(rt: HostRuntime) -> io::Result<()> {
+    let mut path = [0u8; PATH];
+    let n = match rt.arg(1, &mut path) {
+        Ok(n) => n,
+        Err(FillError::NotPresent) => return run(&mut rt.stdin(), &rt.stdout()),
+        Err(FillError::TooLong) => {
+            fail(&rt.stderr(), b"path", &name_too_long());
+            return Ok(());
+        }
+    };
+    match open_read(&rt, &path[..n]) {
+        Ok(mut file) => run(&mut file, &rt.stdout()),
+        Err(error) => {
+            fail(&rt.stderr(), &path[..n], &error);
+            Ok(())
+        }
     }
-    let mut path = io::buffer();
-    let n = os::arg(1, &mut path);
-    if os::errno() != 0 {
-        os::fail(b"path");
-        return;
-    }
-    let fd = os::open_read(&path[..n]);
-    if fd < 0 {
-        os::fail(&path[..n]);
-        return;
-    }
-    run(fd);
-    libc::close(fd);
 }

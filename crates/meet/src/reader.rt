@@ -334,7 +334,7 @@ fn expression(
     if open == 0 {
         return Read::Broken(at);
     }
-    let start = pair_start(text, from, at, cells);
+    let start = pair_start(text, Read::On(p), at, cells);
     let left = inside(open);
     let head = expression(text, start, left, cells, names);
     let tail = expression(text, head, left, cells, names);
@@ -401,7 +401,7 @@ fn new_run(from: Read) -> Read {
 }
 
 // How many cells the run has.
-fn run_cells(read: Read) -> usize {
+fn run_cells(read: &Read) -> usize {
     match read {
         Read::On(p) => p.cells,
         Read::Broken(_) => 0,
@@ -427,6 +427,7 @@ pub fn read_problem(text: &[u8], cells: &mut [u16], q: &mut [u16], names: &mut [
         &mut cells[0..middle],
         names,
     );
+    let wanted_cells = run_cells(&wanted);
     let output = expression(
         text,
         new_run(wanted),
@@ -434,11 +435,12 @@ pub fn read_problem(text: &[u8], cells: &mut [u16], q: &mut [u16], names: &mut [
         &mut cells[middle..end],
         names,
     );
+    let output_cells = run_cells(&output);
     match non_equalities(text, new_run(output), q, names) {
         Read::Broken(at) => Problem::Broken(at),
         Read::On(last) => Problem::Whole {
-            wanted: run_cells(wanted),
-            output: run_cells(output),
+            wanted: wanted_cells,
+            output: output_cells,
             neqs: last.cells / 2,
         },
     }

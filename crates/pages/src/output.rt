@@ -1,5 +1,6 @@
 // What the entries answer, written to standard output page by page. No contract can say what is written; these say how much was taken.
 ghost use Rattle.std.specs.Prelude.{true, ◌≡◌, ◌≤◌, min, length};
+ghost use Rattle.std.specs.Io.{WritesAtMost};
 ghost use Rattle.resolve.specs.ListAnswer.{list_left};
 ghost use Rattle.print.specs.Twins.ListedText.{listed_with};
 ghost use Rattle.print.specs.Twins.RanText.{ran_text};
@@ -7,18 +8,20 @@ ghost use Rattle.pages.specs.Written.{listed, listed_bytes, ran, ran_bytes};
 
 use crate::page::{list_page, run_page};
 use cells::part::part;
-use libc::{EAGAIN, EINTR, STDOUT_FILENO};
 use print::first::{Listed, list_first, list_first_sampled};
 use resolve::{list, run};
+use std::io::{ErrorKind, Write};
+use std::{io, thread};
 
 // How many writes in a row may take nothing before writing counts as failed: a reader may stand still for some seconds.
 const TRIES: usize = 10000000;
 
-// How many bytes were taken, and whether that is the whole text. Where it is not, errno says why.
+// How many bytes were taken, and whether that is the whole text. Where it is not, the error says why.
 #[derive(Drop)]
 pub struct Written {
     pub bytes: usize,
     pub whole: bool,
+    pub error: Option<io::Error>,
 }
 
 // What was written, and what it is the text of.
@@ -35,51 +38,68 @@ pub struct RunWritten {
 }
 
 // Whether a write that took nothing may take something later: a signal came between, or the reader of a pipe that does not wait is behind.
-fn may_try_again() -> bool {
-    let error = os::errno();
-    if error == EAGAIN {
-        return true;
+fn may_try_again(error: &io::Error) -> bool {
+    match error.kind() {
+        ErrorKind::WouldBlock | ErrorKind::Interrupted => true,
+        _ => false,
     }
-    error == EINTR
+}
+
+// One write that takes something, behind as many that take nothing as are waited for.
+fn write_some<W: Write>(out: &mut W, bytes: &[u8]) -> io::Result<usize>
+    ensures { WritesAtMost result bytes.now }
+{
+    let mut last = io::Error::from(ErrorKind::WouldBlock);
+    for _ in 0..TRIES {
+        match out.write(bytes) {
+            Ok(0) => return Err(io::Error::from(ErrorKind::WriteZero)),
+            Ok(taken) => return Ok(taken),
+            Err(error) => last = error,
+        }
+        if !may_try_again(&last) {
+            return Err(last);
+        }
+        thread::yield_now();
+    }
+    Err(last)
 }
 
 // Writes the bytes, on after each part that is taken: how many were taken, all of them where nothing failed.
-fn write_bytes(bytes: &[u8]) -> usize
-    ensures { result ≤ length bytes.now }
+fn write_bytes<W: Write>(out: &mut W, bytes: &[u8]) -> Written
+    ensures { result.bytes ≤ length bytes.now }
 {
     let mut done: usize = 0;
-    let mut tries: usize = 0;
     while done < bytes.len() {
-        let left = &bytes[done..];
-        let taken = io::count(libc::write(STDOUT_FILENO, left), left);
-        if 0 < taken {
-            done += taken;
-            tries = 0;
-            continue;
+        match write_some(out, &bytes[done..]) {
+            Ok(taken) => done += taken,
+            Err(error) => {
+                return Written {
+                    bytes: done,
+                    whole: false,
+                    error: Some(error),
+                };
+            }
         }
-        if TRIES <= tries {
-            return done;
-        }
-        if !may_try_again() {
-            return done;
-        }
-        libc::sched_yield();
-        tries += 1;
     }
-    done
+    Written {
+        bytes: done,
+        whole: true,
+        error: None,
+    }
 }
 
 // The same of the first n bytes of a page.
-fn write_page(page: &[u8; 65536], n: usize) -> usize
-    ensures { result ≤ n }
+fn write_page<W: Write>(out: &mut W, page: &[u8; 65536], n: usize) -> Written
+    ensures { result.bytes ≤ n }
 {
-    write_bytes(part(page, 0, n))
+    write_bytes(out, part(page, 0, n))
 }
 
 // Page after page of a listing, whose first page is there: `first` bytes of it are text. The lines have at most 16,384 nodes, of at most 40
 // bytes each with what is printed around them, and 256 numbers: 64 pages hold them. Samples have no more nodes than their lines, and names of no more
 // bytes than symbols: 128 pages hold both.
-fn write_list(
+fn write_list<W: Write>(
+    out: &mut W,
     samples: bool,
     program: &[u8],
     job: &[u8],
@@ -94,18 +114,20 @@ fn write_list(
     let mut n = first;
     let mut bytes: usize = 0;
     for k in 0..128u32 {
-        let taken = write_page(page, n);
-        bytes += taken;
-        if taken < n {
+        let taken = write_page(out, page, n);
+        bytes += taken.bytes;
+        if taken.bytes < n {
             return Written {
                 bytes: bytes,
                 whole: false,
+                error: taken.error,
             };
         }
         if n < 65536 {
             return Written {
                 bytes: bytes,
                 whole: true,
+                error: None,
             };
         }
         n = list_page(samples, program, job, answer, cells, k + 1, page);
@@ -113,31 +135,41 @@ fn write_list(
     Written {
         bytes: bytes,
         whole: false,
+        error: Some(io::Error::from(ErrorKind::FileTooLarge)),
     }
 }
 
 // A value of 4,096 nodes has at most 2,048 symbols of 17 bytes and 2,047 pairs of 8: the line fits one page.
-fn write_run(program: &[u8], job: &[u8], answer: run_answers::run::Answer, cells: &[u16]) -> Written
+fn write_run<W: Write>(
+    out: &mut W,
+    program: &[u8],
+    job: &[u8],
+    answer: run_answers::run::Answer,
+    cells: &[u16],
+) -> Written
     ensures { result.whole ≡ true → result.bytes ≡ length (ran_text program.now job.now cells.now answer) }
 {
-    let mut page = io::large_buffer();
+    let mut page = [0u8; 65536];
     let n = run_page(program, job, answer, cells, 0, &mut page);
-    let taken = write_page(&page, n);
-    if taken < n {
+    let taken = write_page(out, &page, n);
+    if taken.bytes < n {
         return Written {
-            bytes: taken,
+            bytes: taken.bytes,
             whole: false,
+            error: taken.error,
         };
     }
     if n < 65536 {
         return Written {
-            bytes: taken,
+            bytes: taken.bytes,
             whole: true,
+            error: None,
         };
     }
     Written {
-        bytes: taken,
+        bytes: taken.bytes,
         whole: false,
+        error: Some(io::Error::from(ErrorKind::FileTooLarge)),
     }
 }
 
@@ -159,17 +191,26 @@ fn first_page(
 }
 
 // Writes the listing of the two texts, with samples where they are called for (02, request 2).
-pub fn list_texts(samples: bool, program: &[u8], job: &[u8]) -> ListWritten
+pub fn list_texts<W: Write>(out: &mut W, samples: bool, program: &[u8], job: &[u8]) -> ListWritten
     ensures { (result.answer ≡ listed program.now job.now) × (result.written.whole ≡ true → result.written.bytes ≡ listed_bytes samples program.now job.now) }
 {
     let mut work_space = [0u16; list::WORK];
     let mut answer_space = [0u16; list::ANSWER];
     let work: &mut [u16] = &mut work_space;
     let answer: &mut [u16] = &mut answer_space;
-    let mut page = io::large_buffer();
+    let mut page = [0u8; 65536];
     let listed = first_page(samples, program, job, work, answer, &mut page);
     let said = listed.answer;
-    let written = write_list(samples, program, job, said, answer, listed.bytes, &mut page);
+    let written = write_list(
+        out,
+        samples,
+        program,
+        job,
+        said,
+        answer,
+        listed.bytes,
+        &mut page,
+    );
     ListWritten {
         written: written,
         answer: said,
@@ -177,7 +218,7 @@ pub fn list_texts(samples: bool, program: &[u8], job: &[u8]) -> ListWritten
 }
 
 // Writes the line of the program's run on the job's inputs.
-pub fn run_texts(program: &[u8], job: &[u8]) -> RunWritten
+pub fn run_texts<W: Write>(out: &mut W, program: &[u8], job: &[u8]) -> RunWritten
     ensures { (result.answer ≡ ran program.now job.now) × (result.written.whole ≡ true → result.written.bytes ≡ ran_bytes program.now job.now) }
 {
     let mut work_space = [0u16; run::WORK];
@@ -185,7 +226,7 @@ pub fn run_texts(program: &[u8], job: &[u8]) -> RunWritten
     let work: &mut [u16] = &mut work_space;
     let answer: &mut [u16] = &mut answer_space;
     let said = run::run(program, job, work, answer);
-    let written = write_run(program, job, said, answer);
+    let written = write_run(out, program, job, said, answer);
     RunWritten {
         written: written,
         answer: said,

@@ -5,11 +5,41 @@ use crate::table::Entry;
 use crate::{files, say, table};
 use cells::cell::{byte, less};
 use cells::part::part;
-use libc::STDOUT_FILENO;
+use std::env::{Env, FillError};
+use std::io;
 
-fn is_option(i: usize) -> bool {
-    let mut space = io::buffer();
-    let n = os::arg(i, &mut space);
+// Room for a word of the command line. A longer one counts as empty.
+const WORD: usize = 4096;
+
+// The word's bytes at the front of `space`: how many they are, none where it is missing or longer than `space`.
+fn argument(env: &impl Env, i: usize, space: &mut [u8; WORD]) -> usize {
+    match env.arg(i, space) {
+        Ok(n) => n,
+        Err(FillError::NotPresent | FillError::TooLong) => 0,
+    }
+}
+
+// Whether the command line has a word of this number; it may be empty or long.
+fn is_present(env: &impl Env, i: usize) -> bool {
+    match env.arg(i, &mut []) {
+        Err(FillError::NotPresent) => false,
+        _ => true,
+    }
+}
+
+// How many words the command line has, the program's own name among them.
+pub fn count(env: &impl Env) -> usize {
+    for i in 0..usize::MAX {
+        if !is_present(env, i) {
+            return i;
+        }
+    }
+    usize::MAX
+}
+
+fn is_option(env: &impl Env, i: usize) -> bool {
+    let mut space = [0u8; WORD];
+    let n = argument(env, i, &mut space);
     let word = part(&space, 0, n);
     if byte(word, 0) != b'-' {
         return false;
@@ -18,44 +48,44 @@ fn is_option(i: usize) -> bool {
 }
 
 // Whether the command takes the option that argument i is; says so where it does not.
-fn is_taken(commands: &[u8], e: Entry, i: usize) -> bool {
-    let mut space = io::buffer();
-    let n = os::arg(i, &mut space);
+fn is_taken(rt: &HostRuntime, commands: &[u8], e: Entry, i: usize) -> io::Result<bool> {
+    let mut space = [0u8; WORD];
+    let n = argument(rt, i, &mut space);
     let word = part(&space, 0, n);
     if table::takes(commands, e, word) {
-        return true;
+        return Ok(true);
     }
-    say::unknown_option(commands, e, word);
-    false
+    say::unknown_option(&rt.stderr(), commands, e, word)?;
+    Ok(false)
 }
 
 // The first argument behind the command that is no option; 0 where one is not the command's.
-fn first_file(commands: &[u8], e: Entry) -> usize {
-    let count = os::arg_count();
+fn first_file(rt: &HostRuntime, commands: &[u8], e: Entry) -> io::Result<usize> {
+    let count = count(rt);
     let mut i: usize = 2;
     while i < count {
-        if !is_option(i) {
-            return i;
+        if !is_option(rt, i) {
+            return Ok(i);
         }
-        if !is_taken(commands, e, i) {
-            return 0;
+        if !is_taken(rt, commands, e, i)? {
+            return Ok(0);
         }
         i += 1;
     }
-    i
+    Ok(i)
 }
 
-fn is_argument(i: usize, word: &[u8]) -> bool {
-    let mut space = io::buffer();
-    let n = os::arg(i, &mut space);
+fn is_argument(env: &impl Env, i: usize, word: &[u8]) -> bool {
+    let mut space = [0u8; WORD];
+    let n = argument(env, i, &mut space);
     alike(part(&space, 0, n), word)
 }
 
 // Whether the option stands before argument `first`, the first file.
-fn is_given(first: usize, option: &[u8]) -> bool {
+fn is_given(env: &impl Env, first: usize, option: &[u8]) -> bool {
     let mut i: usize = 2;
     while i < first {
-        if is_argument(i, option) {
+        if is_argument(env, i, option) {
             return true;
         }
         i += 1;
@@ -64,53 +94,47 @@ fn is_given(first: usize, option: &[u8]) -> bool {
 }
 
 // `ura help`, `ura help COMMAND` and `ura help numbers`.
-fn help(commands: &[u8]) {
-    if os::arg_count() == 2 {
-        say::help_all(STDOUT_FILENO, commands);
-        return;
+fn help(rt: &HostRuntime, commands: &[u8]) -> io::Result<()> {
+    if count(rt) == 2 {
+        return say::help_all(&rt.stdout(), commands);
     }
-    let mut space = io::buffer();
-    let n = os::arg(2, &mut space);
+    let mut space = [0u8; WORD];
+    let n = argument(rt, 2, &mut space);
     let word = part(&space, 0, n);
     if alike(word, b"numbers") {
-        write_numbers(STDOUT_FILENO);
-        return;
+        return write_numbers(&rt.stdout());
     }
     let e = table::find(commands, word);
     if table::is_found(e) {
-        say::help(STDOUT_FILENO, commands, e);
-        return;
+        return say::help(&rt.stdout(), commands, e);
     }
-    say::unknown_command(commands, word);
+    say::unknown_command(&rt.stderr(), commands, word)
 }
 
 // A command that takes files.
-fn of_files(commands: &[u8], e: Entry, runs: bool) {
-    let first = first_file(commands, e);
+fn of_files(rt: &HostRuntime, commands: &[u8], e: Entry, runs: bool) -> io::Result<()> {
+    let first = first_file(rt, commands, e)?;
     if first == 0 {
-        return;
+        return Ok(());
     }
-    let given = less(os::arg_count(), first);
+    let given = less(count(rt), first);
     if given != table::files(commands, e) {
-        say::wrong_files(commands, e, given);
-        return;
+        return say::wrong_files(&rt.stderr(), commands, e, given);
     }
-    files::of_files(first, runs, is_given(first, b"--samples"));
+    files::of_files(rt, first, runs, is_given(rt, first, b"--samples"))
 }
 
 // What the first argument asks for.
-pub fn command(commands: &[u8]) {
-    let mut space = io::buffer();
-    let n = os::arg(1, &mut space);
+pub fn command(rt: &HostRuntime, commands: &[u8]) -> io::Result<()> {
+    let mut space = [0u8; WORD];
+    let n = argument(rt, 1, &mut space);
     let word = part(&space, 0, n);
     let e = table::find(commands, word);
     if !table::is_found(e) {
-        say::unknown_command(commands, word);
-        return;
+        return say::unknown_command(&rt.stderr(), commands, word);
     }
     if alike(word, b"help") {
-        help(commands);
-        return;
+        return help(rt, commands);
     }
-    of_files(commands, e, alike(word, b"run"));
+    of_files(rt, commands, e, alike(word, b"run"))
 }

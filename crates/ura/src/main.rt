@@ -20,12 +20,14 @@ mod places;
 mod say;
 mod table;
 
-fn main() {
-    if os::arg_count() == 1 {
-        files::list_here();
-        return;
+use std::io;
+
+fn main(rt: HostRuntime) -> io::Result<()> {
+    if arguments::count(&rt) == 1 {
+        return files::list_here(&rt);
     }
     arguments::command(
+        &rt,
         b"list [--samples] PROG JOB: every sort of input that gets the wanted output, one a line; --samples: one such input under each\nrun PROG JOB: the program run forwards on the job's inputs\nhelp [COMMAND]: what the commands do; help numbers: what the numbers of refusals and stops mean\n",
-    );
+    )
 }

@@ -7,7 +7,7 @@ use cells::cell::{byte, least};
 use cells::part::part;
 
 // The line of a command: where it begins, where its colon stands and where it ends. All of them are 0 where there is no such command.
-#[derive(Drop)]
+#[derive(Clone, Copy)]
 pub struct Entry {
     pub from: usize,
     pub colon: usize,

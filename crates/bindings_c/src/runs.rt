@@ -1,0 +1,56 @@
+// A run of two texts, and its print.
+ghost use Rattle.std.specs.Prelude.{◌≡◌, ◌-◌, min, length};
+ghost use Rattle.language.specs.Source.{SProg, SJob, prog};
+ghost use Rattle.language.specs.JobCheck.{runner};
+ghost use Rattle.language.specs.Reading.{accepted, reading};
+ghost use Rattle.semantics.specs.Answer.{inputs};
+ghost use Rattle.listing.specs.Text.{run_text};
+ghost use Rattle.resolve.specs.RunAnswer.{run_left};
+ghost use Rattle.resolve.specs.RunDemand.{Answered, StoredRun};
+ghost use Rattle.window.specs.Windows.{windowed};
+ghost use Rattle.print.specs.Twins.RanText.{ran_text};
+ghost use Rattle.telling.specs.Numbers.{said_after};
+ghost use Rattle.run_answers.specs.RunNumbers.{number_of, said_of, answer_from};
+ghost use Rattle.bindings.specs.Told.{RunTold};
+
+#[unsafe(no_mangle)]
+pub extern "C" fn raugvite_run(
+    program: &[u8],
+    job: &[u8],
+    work: &mut [u16],
+    answer: &mut [u16],
+    said: &mut [usize],
+) -> usize
+    ensures { (let w = run_left program.now job.now work.old answer.old in (result ≡ number_of w.answer) × (work.new ≡ w.work) × (answer.new ≡ w.cells) × (said.new ≡ said_after (number_of w.answer) (said_of w.answer) said.old)) × ((s : SProg) (t : SJob) → reading runner program.now job.now ≡ accepted s t → Answered (run_left program.now job.now work.old answer.old).answer → StoredRun (prog s) t.steps.num (inputs t) (run_left program.now job.now work.old answer.old).answer answer.new) }
+{
+    bindings::runs::raugvite_run(program, job, work, answer, said)
+}
+
+#[unsafe(no_mangle)]
+pub extern "C" fn raugvite_print_run(
+    program: &[u8],
+    job: &[u8],
+    number: usize,
+    said: &[usize],
+    cells: &[u16],
+    from: usize,
+    out: &mut [u8],
+) -> usize
+    ensures { (let text = ran_text program.now job.now cells.now (answer_from number said.now) in (result ≡ min (length out.old) (length text - from)) × (out.new ≡ windowed (length out.old) from text)) × (RunTold program.now job.now number said.now cells.now → ran_text program.now job.now cells.now (answer_from number said.now) ≡ run_text program.now job.now) }
+{
+    bindings::runs::raugvite_print_run(program, job, number, said, cells, from, out)
+}
+
+#[unsafe(no_mangle)]
+pub extern "C" fn raugvite_run_work() -> usize
+    ensures { result ≡ 8194 }
+{
+    bindings::runs::raugvite_run_work()
+}
+
+#[unsafe(no_mangle)]
+pub extern "C" fn raugvite_run_answer() -> usize
+    ensures { result ≡ 4096 }
+{
+    bindings::runs::raugvite_run_answer()
+}

@@ -1,0 +1,36 @@
+// Files and streams that are read.
+ghost use Rattle.std.specs.Io.{ReadsAtMost};
+
+use std::io::{ErrorKind, Read};
+use std::rt::Files;
+use std::{fs, io};
+
+// The bytes up to the reader's end, or as many as there is room for: how many they are. They stand at the front of `buf`.
+pub fn read_full<R: Read>(reader: &mut R, buf: &mut [u8]) -> io::Result<usize>
+    ensures { ReadsAtMost result buf.new }
+{
+    let mut done = 0;
+    for _ in 0..u64::MAX {
+        if done == buf.len() {
+            break;
+        }
+        match reader.read(&mut buf[done..]) {
+            Ok(0) => break,
+            Ok(n) => done += n,
+            Err(error) => {
+                if error.kind() != ErrorKind::Interrupted {
+                    return Err(error);
+                }
+            }
+        }
+    }
+    Ok(done)
+}
+
+// Opens the file for reading. std names a file by text alone, so that a name of other bytes names none.
+pub fn open_read<R: Files>(rt: &R, path: &[u8]) -> io::Result<R::File> {
+    match std::str::from_utf8(path) {
+        Ok(text) => fs::open(rt, text),
+        Err(_) => Err(io::Error::new(ErrorKind::InvalidFilename, "the file's name is not UTF-8")),
+    }
+}
