@@ -7,7 +7,7 @@ use mathlib.Core.Option.{Option, none, some}
 use mathlib.Core.Logic.{◌⊎◌, inl, inr}
 use native.Mathlib.Omega.{arith}
 use lib.ListN.{length, length-append}
-use Rattle.expressions.specs.Expression.{Exp, atm, evar, pair, nodes}
+use Rattle.expressions.specs.Expression.{Exp, atm, evar, pair}
 use Rattle.expressions.specs.Restriction.{Restriction, simplify}
 use Rattle.expressions.specs.Class.{IOClass}
 use Rattle.expressions.specs.Contraction.{CRPair}

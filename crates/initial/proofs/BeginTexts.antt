@@ -9,7 +9,6 @@ use lib.ListN.{length}
 use Rattle.expressions.specs.Expression.{sym, avar, Exp, atm, evar, pair, nodes, nodes_all}
 use Rattle.expressions.specs.Class.{IOClass}
 use Rattle.expressions.proofs.Numbers.{ClassNumbers}
-use Rattle.sets.specs.Cells.{cells}
 use Rattle.sets.proofs.CellLaws.{cells_nodes, cells_all_nodes, restriction_cells_nodes}
 use Rattle.language.specs.Bytes.{Verdict, unless, ◌or_else◌}
 use Rattle.language.specs.Words.{Word}

@@ -10,7 +10,7 @@ use Rattle.expressions.specs.Expression.{Exp}
 use Rattle.sets.specs.Cells.{cells_all}
 use Rattle.runs.specs.Twins.Runs.{run}
 use Rattle.heap.specs.Twins.Entries.{PushAnswer, entry, pushed}
-use Rattle.heap.specs.declared.entry.Pushed.TheVariants.{Done, Full}
+use Rattle.heap.specs.declared.entry.Pushed.TheVariants.{Done}
 use Rattle.runs.proofs.RunLaws.{below_self}
 use Rattle.heap.proofs.HeapLaws.{Holds}
 use Rattle.heap.proofs.FrameLaws.{Held, held_front, entry_length}

@@ -1,5 +1,5 @@
 -- The beginning of a run is that of the runner's definition: a run has values only, and a value is an expression without variables.
-use Prim.Native.Nat.{ℕ, ◌+◌, ◌<◌}
+use Prim.Native.Nat.{ℕ, ◌<◌}
 use mathlib.Core.Path.{◌≡◌, refl, ap₂, subst, sym as inv}
 use mathlib.Core.Bool.{true}
 use mathlib.Core.List.{List, [], map}
@@ -8,7 +8,7 @@ use native.Mathlib.Omega.{arith}
 use lib.ListN.{length}
 use Rattle.expressions.specs.Expression.{Value, sym, Exp, atm, nodes_all}
 use Rattle.expressions.specs.Split.{first_fresh}
-use Rattle.sets.specs.Cells.{cells, cells_all}
+use Rattle.sets.specs.Cells.{cells_all}
 use Rattle.sets.proofs.CellLaws.{cells_all_nodes}
 use Rattle.language.specs.Tokens.{symbols_of}
 use Rattle.language.specs.Program.{Prog, find}

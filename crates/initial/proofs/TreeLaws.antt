@@ -1,14 +1,13 @@
 -- Trees that stand one behind the other: the entries that are made hold them, or there are too many.
-use Prim.Native.Nat.{ℕ, zero, suc, ◌+◌, ◌-◌, ◌*◌, ◌≤◌, ◌<◌}
+use Prim.Native.Nat.{ℕ, suc, ◌+◌, ◌-◌, ◌*◌, ◌≤◌, ◌<◌}
 use mathlib.Core.Path.{◌≡◌, refl, ap, ◌∙◌, sym as inv}
 use mathlib.Core.List.{List, [], ◌∷◌, ◌++◌, append_assoc}
 use mathlib.Core.Logic.{◌⊎◌, inl, inr}
 use native.Mathlib.Omega.{arith}
 use native.Mathlib.Decide.{dec_le}
-use native.Mathlib.Numerals.{add-one}
-use lib.ListN.{length, take, drop, get_or, length-append}
-use lib.Seq.{drop-cons, take_at, drop_at}
-use Rattle.expressions.specs.Expression.{Exp, atm, evar, pair, nodes}
+use lib.ListN.{length, take, drop, length-append}
+use lib.Seq.{take_at, drop_at}
+use Rattle.expressions.specs.Expression.{Exp, nodes}
 use Rattle.sets.specs.Twins.Copying.{tree_end}
 use Rattle.sets.specs.Cells.{cells, cells_all}
 use Rattle.sets.proofs.CellLaws.{stands_end, cells_nodes}

@@ -1,13 +1,13 @@
 -- What `meet_end` answers and leaves at an end of a walk is what the walk's definition finds there.
-use Prim.Native.Nat.{ℕ, suc, ◌+◌, ◌*◌, ◌≤◌, ◌<◌, min}
+use Prim.Native.Nat.{ℕ, ◌+◌, ◌*◌, ◌≤◌, ◌<◌, min}
 use mathlib.Core.Path.{◌≡◌, refl, ap, subst, ◌∙◌, sym as inv}
 use mathlib.Core.Bool.{Bool, true, false, cond, ◌||◌}
-use mathlib.Core.List.{List, [], ◌∷◌, ◌++◌, append_assoc}
+use mathlib.Core.List.{List, [], ◌∷◌, append_assoc}
 use mathlib.Core.Option.{some}
 use mathlib.Core.Logic.{◌⊎◌, inl, inr}
 use native.Mathlib.Omega.{arith}
 use lib.Dec.{leb, ltb}
-use lib.ListN.{length, length-append}
+use lib.ListN.{length}
 use borrow.Author.Tests.{lt-ltb, le-ltb, lt-leb, ltb-true, ltb-false, leb-false}
 use Rattle.expressions.specs.Expression.{Exp, nodes}
 use Rattle.expressions.specs.Substitution.{apply}
@@ -16,8 +16,7 @@ use Rattle.expressions.specs.Contraction.{CRPair}
 use Rattle.expressions.specs.Class.{IOClass, nodes_class}
 use Rattle.expressions.specs.Intersection.{meeting, Intersected, common, disjoint, too_large, intersect, nodes_meeting}
 use Rattle.language.specs.Program.{Term, result, Param, Prog}
-use Rattle.language.specs.Scope.{in_scope}
-use Rattle.semantics.specs.Configuration.{ExpEnv, subst_of_env, nodes_state, Configuration}
+use Rattle.semantics.specs.Configuration.{ExpEnv, subst_of_env, nodes_state}
 use Rattle.semantics.specs.Tree.{Node, meeting_at}
 use Rattle.semantics.specs.Walk.{meeting_over, Limits, stop21, stop22, stop23, WalkState, Walked, going, stopped, table_full, with_line, at_end}
 use Rattle.semantics.proofs.Scopes.{Covers, WellScoped}
@@ -32,12 +31,11 @@ use Rattle.heap.proofs.PartLaws.{held_joined}
 use Rattle.heap.proofs.NodeLaws.{holds_nodes}
 use Rattle.linking.specs.Twins.Linked.{ExpLinked, TermLinked, result_linked}
 use Rattle.linking.specs.Twins.Places.{env_of}
-use Rattle.saving.specs.declared.head.Node.{Node as Saved}
 use Rattle.constants.proofs.ConstantLaws.{Constants}
 use Rattle.values.specs.Twins.Names.{names_from}
 use Rattle.values.specs.Twins.Values.{ValueLeft, value_at}
 use Rattle.values.specs.declared.value.Valued.TheVariants.{At, Over as ValuedOver}
-use Rattle.values.proofs.ValueLaws.{Known, ValuedAs}
+use Rattle.values.proofs.ValueLaws.{Known}
 use Rattle.values.proofs.RoomLaws.{value_outcome}
 use Rattle.values.proofs.RoomLaws as values
 use Rattle.values.proofs.StateLaws.{HoldsPair, Stands, known_in_scope}
@@ -47,14 +45,14 @@ use Rattle.meetings.specs.declared.class.Class.{Class}
 use Rattle.meetings.specs.declared.class.Met.{Met}
 use Rattle.meetings.specs.declared.class.Met.TheVariants.{Common, Apart, Over as MetOver}
 use Rattle.meetings.proofs.ClassLaws.{over, reached, MeetingHeld, class_over}
-use Rattle.meetings.proofs.BindingLaws.{Roomy, Kept}
-use Rattle.meetings.proofs.UnifierLaws.{Answered, Meets, unify_means}
+use Rattle.meetings.proofs.BindingLaws.{Kept}
+use Rattle.meetings.proofs.UnifierLaws.{Answered, unify_means}
 use Rattle.lines.specs.LineCells.{answer_room}
 use Rattle.meetings.specs.Twins.LineCells.{line_put}
 use Rattle.lines.specs.Twins.Lines.{nodes_in_line, AddLeft, add_left, one_more, line_added}
-use Rattle.lines.specs.Twins.Ends.{class_at, value_met, output_met, ended_as, EndLeft, after_meeting, met_end}
+use Rattle.lines.specs.Twins.Ends.{class_at, output_met, ended_as, EndLeft, after_meeting, met_end}
 use Rattle.lines.specs.declared.line.Lines.{Lines}
-use Rattle.lines.specs.declared.line.Added.TheVariants.{Going as AddedGoing, Full as AddedFull}
+use Rattle.lines.specs.declared.line.Added.TheVariants.{Full as AddedFull}
 use Rattle.lines.specs.declared.end.Ended.{Ended}
 use Rattle.lines.specs.declared.end.Ended.TheVariants.{Going, Over, Full}
 use Rattle.lines.proofs.LineLaws.{LinesHeld, nodes_in, line_stored, line_long}

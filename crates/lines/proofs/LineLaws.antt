@@ -1,14 +1,11 @@
 -- A line that is added stands behind those before it, and zeros follow.
 use Prim.Native.Nat.{ℕ, zero, suc, ◌+◌, ◌-◌, ◌*◌, ◌≤◌, ◌<◌, min}
 use mathlib.Core.Path.{◌≡◌, refl, ap, ap₂, subst, ◌∙◌, sym as inv}
-use mathlib.Core.Bool.{Bool, true, false, cond}
 use mathlib.Core.List.{List, [], ◌∷◌, ◌++◌, append_assoc, append-nil}
 use native.Mathlib.Omega.{arith}
-use lib.ListN.{length, take, drop, replicate, length-append, length-drop, length-replicate}
+use lib.ListN.{length, drop, replicate, length-append, length-replicate}
 use Rattle.expressions.specs.Expression.{Exp, nodes, nodes_all}
 use Rattle.expressions.specs.Class.{IOClass, nodes_class}
-use Rattle.expressions.specs.Contraction.{CRPair}
-use Rattle.expressions.specs.Intersection.{meeting}
 use Rattle.semantics.specs.Tree.{Line}
 use Rattle.heap.specs.Twins.Entries.{nodes_from}
 use Rattle.heap.proofs.FrameLaws.{Held}
@@ -19,7 +16,7 @@ use Rattle.meetings.specs.declared.class.Class.{Class}
 use Rattle.meetings.proofs.ClassLaws.{MeetingHeld, reached, few as meeting-few}
 use Rattle.meetings.proofs.LineLaws.{class_length, line_means}
 use Rattle.lines.specs.LineCells.{line_cells, lines_cells, nodes_lines, answer_room}
-use Rattle.lines.specs.Twins.Lines.{nodes_in_line, lines_more, one_more}
+use Rattle.lines.specs.Twins.Lines.{nodes_in_line, lines_more}
 use Rattle.lines.specs.declared.line.Lines.{Lines}
 
 -- n zeros

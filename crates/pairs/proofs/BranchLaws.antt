@@ -3,7 +3,7 @@ use Prim.Native.Nat.{ℕ, ◌+◌, ◌≤◌, ◌<◌}
 use mathlib.Core.Path.{◌≡◌, refl, ap, subst, ◌∙◌, sym as inv}
 use mathlib.Core.Bool.{not}
 use mathlib.Core.List.{List}
-use mathlib.Core.Option.{Option, none, some}
+use mathlib.Core.Option.{Option}
 use mathlib.Core.Logic.{◌⊎◌, inl, inr}
 use native.Mathlib.Omega.{arith}
 use lib.ListN.{length}
@@ -15,7 +15,7 @@ use Rattle.semantics.specs.Environment.{Env}
 use Rattle.semantics.specs.Configuration.{subst_of_env, state, nodes_state, Configuration}
 use Rattle.semantics.specs.Trace.{Successors, branches, trace_pair, successors_of}
 use Rattle.semantics.proofs.Scopes.{Covers, WellScoped, scoped_consp}
-use Rattle.heap.specs.Twins.Moving.{Left, left}
+use Rattle.heap.specs.Twins.Moving.{Left}
 use Rattle.heap.specs.declared.configuration.Configuration.{Configuration as InCells}
 use Rattle.heap.specs.declared.configuration.Moved.TheVariants.{Over}
 use Rattle.runs.proofs.RunLaws.{Below}

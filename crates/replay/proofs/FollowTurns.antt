@@ -4,7 +4,7 @@ use mathlib.Core.Path.{◌≡◌}
 use mathlib.Core.Bool.{cond}
 use mathlib.Core.List.{List}
 use native.Mathlib.Omega.{arith}
-use Rattle.replay.specs.Twins.Replaying.{is_there, ReplayLeft, replay_left, onward, follow_step, follow_from}
+use Rattle.replay.specs.Twins.Replaying.{is_there, replay_left, onward, follow_step, follow_from}
 use Rattle.positions.specs.declared.position.Position.{Position}
 
 none_left : (n : ℕ) → n ≤ 0 → n ≡ 0

@@ -1,16 +1,14 @@
 -- What is saved along a path: the start, and configurations of choices that are pending, each with what it has in the heap.
-use Prim.Native.Nat.{ℕ, zero, suc, ◌+◌, ◌*◌, ◌≤◌, ◌<◌}
-use mathlib.Core.Path.{◌≡◌, refl, ap, subst, ◌∙◌, sym as inv}
+use Prim.Native.Nat.{ℕ, zero, suc, ◌*◌, ◌≤◌}
+use mathlib.Core.Path.{◌≡◌, refl, ap, subst, ◌∙◌}
 use mathlib.Core.Bool.{Bool, true, false}
 use mathlib.Core.List.{List, [], ◌∷◌, ◌++◌}
-use mathlib.Core.Option.{Option, some}
 use native.Mathlib.Omega.{arith}
 use native.Mathlib.Decide.{dec_le}
 use lib.ListN.{length, take, length-append}
-use lib.Seq.{take_all, take_at}
+use lib.Seq.{take_all}
 use Rattle.language.specs.Program.{Prog}
 use Rattle.semantics.specs.Configuration.{nodes_state, Configuration}
-use Rattle.semantics.specs.Trace.{branches, successors}
 use Rattle.semantics.specs.Tree.{Node, root}
 use Rattle.semantics.proofs.Backtrack.{Choice, trail_of, backtrack_to, backtrack}
 use Rattle.semantics.proofs.Soundness.{Sound}
@@ -20,14 +18,11 @@ use Rattle.heap.specs.declared.configuration.Configuration.{Configuration as InC
 use Rattle.runs.proofs.RunLaws.{Below, below_self}
 use Rattle.heap.proofs.FrameLaws.{held_back}
 use Rattle.saving.specs.Twins.Saving.{loaded}
-use Rattle.saving.specs.Twins.Records.{Record, record_of, records_cells, Holding, Fits}
-use Rattle.saving.specs.declared.head.Node.{Node as Saved}
+use Rattle.saving.specs.Twins.Records.{Record, Holding}
 use Rattle.saving.proofs.HoldingLaws.{fit_last, load_frame, load_sides}
 use Rattle.saving.proofs.BackLaws.{record_held, record_front}
-use Rattle.linking.specs.Twins.Linked.{TermLinked}
 use Rattle.constants.proofs.ConstantLaws.{Constants, constants_below}
-use Rattle.values.proofs.StateLaws.{trees, HoldsPair, Stands}
-use Rattle.values.proofs.PairLaws.{state_nodes, entries_few}
+use Rattle.values.proofs.StateLaws.{trees, Stands}
 use Rattle.trails.proofs.ReachLaws.{Decides}
 
 -- what holds of each configuration that a walk enters

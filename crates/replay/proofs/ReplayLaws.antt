@@ -1,42 +1,39 @@
 -- A path worked out again leads to the node of the choice that is looked for, with what was saved on the way.
-use Prim.Native.Nat.{ℕ, zero, suc, ◌+◌, ◌*◌, ◌≤◌, ◌<◌, min}
+use Prim.Native.Nat.{ℕ, zero, suc, ◌+◌, ◌*◌, ◌≤◌, ◌<◌}
 use mathlib.Core.Path.{◌≡◌, refl, ap, subst, ◌∙◌, sym as inv}
-use mathlib.Core.Bool.{Bool, true, false, cond}
+use mathlib.Core.Bool.{Bool, true, false}
 use mathlib.Core.List.{List, [], ◌∷◌, ◌++◌, append-nil, append_assoc}
-use mathlib.Core.Option.{Option, none, some}
+use mathlib.Core.Option.{Option, some}
 use mathlib.Core.Logic.{◌⊎◌, inl, inr}
 use native.Mathlib.Omega.{arith}
-use lib.Dec.{eqb, leb}
 use lib.ListN.{length, take, length-append}
 use lib.Seq.{length-take-le}
 use borrow.Author.Tests.{le-leb, lt-leb}
 use Rattle.language.specs.Program.{Prog}
 use Rattle.semantics.specs.Configuration.{nodes_state, Configuration}
-use Rattle.semantics.specs.Trace.{Successors, terminal, called, branches, successors}
+use Rattle.semantics.specs.Trace.{Successors, called, branches, successors}
 use Rattle.semantics.specs.Tree.{Node, root, after_call, after_decision}
 use Rattle.semantics.proofs.Backtrack.{Choice, trail_of, backtrack}
 use Rattle.semantics.proofs.Reaching.{branch_of, Reaches, here, by_call, by_decision, reaches_call, reaches_decision, reaches_steps, reaches_good}
 use Rattle.heap.specs.Twins.Moving.{Left}
-use Rattle.heap.specs.declared.configuration.Configuration.{Configuration as InCells}
-use Rattle.heap.specs.declared.configuration.Moved.TheVariants.{On, Over}
+use Rattle.heap.specs.declared.configuration.Moved.TheVariants.{Over}
 use Rattle.runs.proofs.RunLaws.{Below}
-use Rattle.linking.specs.Twins.Code.{link_at}
 use Rattle.saving.specs.Twins.Saving.{SaveLeft, saved_to, LoadLeft, loaded}
 use Rattle.saving.specs.Twins.Records.{Record, record_of, record_cells, records_cells, Fits, Holding}
 use Rattle.saving.proofs.HoldingLaws.{records_one, records_more, records_snoc, load_means, load_holding, fit_last}
 use Rattle.saving.proofs.RecordLaws.{record_length}
 use Rattle.saving.proofs.SavedLaws.{SaveHeld, save_means}
 use Rattle.constants.proofs.ConstantLaws.{Constants}
-use Rattle.values.proofs.StateLaws.{trees, Stands, Arrives, Leads, nodes_length}
-use Rattle.values.proofs.PairLaws.{state_nodes, entries_few}
+use Rattle.values.proofs.StateLaws.{trees, Arrives, Leads, nodes_length}
+use Rattle.values.proofs.PairLaws.{entries_few}
 use Rattle.tracing.specs.Twins.Asking.{asked_at, is_call, taken_as}
-use Rattle.tracing.proofs.ShowLaws.{Accepted, Looked, Shows, shows}
+use Rattle.tracing.proofs.ShowLaws.{Accepted, Shows, shows}
 use Rattle.trails.specs.Twins.TrailCells.{taken_at, pending_at}
-use Rattle.trails.proofs.TrailLaws.{PathHeld, path_at, trail_length}
-use Rattle.trails.proofs.ReachLaws.{Decides, reaches_rest, FirstOf, first_of, none_left, trail_joined}
+use Rattle.trails.proofs.TrailLaws.{PathHeld, path_at}
+use Rattle.trails.proofs.ReachLaws.{Decides, reaches_rest, first_of, none_left, trail_joined}
 use Rattle.positions.specs.Twins.Positions.{moved_from}
 use Rattle.replay.specs.Twins.Rooms.{RoomLeft, made_room}
-use Rattle.replay.specs.Twins.Replaying.{is_there, saved_if, ReplayLeft, replay_left, stepped_to, follow_step, onward, follow_from, brought_back}
+use Rattle.replay.specs.Twins.Replaying.{is_there, saved_if, ReplayLeft, replay_left, stepped_to, follow_step, follow_from, brought_back}
 use Rattle.positions.specs.Twins.Positions.{kept_top}
 use Rattle.positions.specs.declared.position.Position.{Position}
 use Rattle.replay.proofs.RecordLaws.{Entered, Recorded, loaded_stands, Rooted, Saves, only, passed, keeps, saves_more, saves_below, saves_constants, saves_first, saves_take, Resumed, from_base, from_choice, resumed_latest}

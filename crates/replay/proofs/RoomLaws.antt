@@ -1,5 +1,5 @@
 -- Room for a transition: the storages hold the same configuration and the same records, or older ones alone, and enough of the heap is free.
-use Prim.Native.Nat.{ℕ, suc, ◌+◌, ◌≤◌, ◌<◌, min}
+use Prim.Native.Nat.{ℕ, ◌+◌, ◌≤◌, min}
 use mathlib.Core.Path.{◌≡◌, refl, ap, subst, ◌∙◌, sym as inv}
 use mathlib.Core.Bool.{Bool, true, false, cond}
 use mathlib.Core.List.{List, [], ◌∷◌, ◌++◌}
@@ -7,13 +7,13 @@ use mathlib.Core.Logic.{◌⊎◌, inl, inr}
 use native.Mathlib.Omega.{arith}
 use lib.Dec.{ltb}
 use lib.ListN.{length, take}
-use borrow.Author.Tests.{lt-ltb, le-ltb, ltb-true, ltb-false}
+use borrow.Author.Tests.{ltb-true, ltb-false}
 use Rattle.expressions.specs.Expression.{nodes_all}
 use Rattle.language.specs.Program.{Prog}
-use Rattle.semantics.specs.Configuration.{nodes_state, Configuration}
+use Rattle.semantics.specs.Configuration.{Configuration}
 use Rattle.semantics.specs.Tree.{Node}
 use Rattle.semantics.proofs.Backtrack.{Choice}
-use Rattle.compaction.specs.Twins.Compacting.{Compaction, compacted}
+use Rattle.compaction.specs.Twins.Compacting.{compacted}
 use Rattle.runs.proofs.RunLaws.{Below}
 use Rattle.compaction.proofs.CompactLaws.{Compacted, compact_means}
 use Rattle.heap.specs.declared.configuration.Configuration.{Configuration as InCells}
@@ -25,9 +25,8 @@ use Rattle.saving.proofs.SavedLaws.{OlderHeld, older_means}
 use Rattle.values.proofs.StateLaws.{trees, HoldsPair, Stands, nodes_length}
 use Rattle.values.proofs.PairLaws.{state_nodes}
 use Rattle.replay.specs.Twins.Rooms.{floor_top, RoomLeft, room_left, together_behind, made_room}
-use Rattle.positions.specs.Twins.Used.{is_full, is_tight, with_used}
 use Rattle.positions.specs.declared.position.Position.{Position}
-use Rattle.replay.proofs.RecordLaws.{Entered, Saves, saves_more, saves_below, saves_floor, saves_first, saves_take, Older}
+use Rattle.replay.proofs.RecordLaws.{Entered, Saves, saves_more, saves_below, saves_floor, saves_first, saves_take}
 
 module _ (p : Prog) (bodies : ℕ → ℕ) (code : List ℕ) (K₀ : Configuration) (N : ℕ) (y₁ : Node) (b₀ : Record) where
   -- the records that are held, with what each has in the heap

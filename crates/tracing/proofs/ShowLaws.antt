@@ -9,7 +9,7 @@ use native.Mathlib.Decide.{dec_le}
 use lib.Dec.{eqb}
 use lib.ListN.{length}
 use borrow.Author.Tests.{le-ltb, ne_eqb}
-use Rattle.expressions.specs.Expression.{sym, avar, Exp, atm, evar, pair}
+use Rattle.expressions.specs.Expression.{Exp}
 use Rattle.expressions.specs.Substitution.{apply, apply_atomic}
 use Rattle.expressions.specs.Restriction.{simplify}
 use Rattle.expressions.specs.Contraction.{CRPair, contract}
@@ -29,7 +29,7 @@ use Rattle.linking.specs.Twins.Linked.{sym_linked, e_linked, a_linked, cons_link
 use Rattle.constants.proofs.ConstantLaws.{Constants}
 use Rattle.values.specs.Twins.Names.{names_from}
 use Rattle.calls.specs.Twins.Calls.{called_to}
-use Rattle.values.proofs.StateLaws.{is_none, HoldsPair, Stands, Leads}
+use Rattle.values.proofs.StateLaws.{is_none, Stands, Leads}
 use Rattle.values.proofs.PairLaws.{base_is, entries_few, entries_are}
 use Rattle.calls.proofs.CallLeads.{call_leads}
 use Rattle.atoms.specs.Twins.Atoms.{sides_at}

@@ -1,11 +1,11 @@
 -- The cells of a stored line's sample (02, request 2): of a line's cells they are those of the definitions' sample.
-use Prim.Native.Nat.{ℕ, ◌+◌, ◌-◌, ◌*◌, ◌≤◌, min}
-use mathlib.Core.Path.{◌≡◌, refl, ap, ap₂, ◌∙◌, sym as inv}
+use Prim.Native.Nat.{ℕ, ◌+◌, ◌-◌, ◌≤◌, min}
+use mathlib.Core.Path.{◌≡◌, ap, ap₂, ◌∙◌, sym as inv}
 use mathlib.Core.List.{List, [], ◌∷◌, ◌++◌, map, append_assoc, append-nil}
 use native.Mathlib.Omega.{arith}
 use lib.ListN.{length, take, drop, replicate, length-append, length-replicate}
-use lib.Seq.{paste, take_at, drop_at}
-use Rattle.expressions.specs.Expression.{Exp, nodes, nodes_all}
+use lib.Seq.{take_at}
+use Rattle.expressions.specs.Expression.{nodes, nodes_all}
 use Rattle.expressions.specs.Class.{IOPair, nodes_io}
 use Rattle.semantics.specs.Embedding.{embed}
 use Rattle.listing.specs.Sample.{sample}
@@ -14,7 +14,7 @@ use Rattle.sets.proofs.CellLaws.{cells_nodes, cells_all_nodes, copied_done}
 use Rattle.sets.specs.Twins.Copying.{part, CopyAnswer, copied}
 use Rattle.samples.specs.Twins.Filling.{sampled_cells}
 use Rattle.samples.proofs.FillMeaning.{fill_means, sample_ins_nodes, sample_out_nodes}
-use Rattle.writer.specs.Twins.SampleText.{Filled, filled_line, filled_cells}
+use Rattle.writer.specs.Twins.SampleText.{filled_line, filled_cells}
 
 -- a beginning copied to the front of a storage
 pub copied_front : (c r d : List ℕ) (n : ℕ) → length c ≡ n → n ≤ length d → (copied (c ++ r) 0 n d 0).cells ≡ c ++ drop n d

@@ -11,7 +11,7 @@ use Rattle.meetings.specs.Twins.Unifying.{MetLeft, met_left, unified}
 use Rattle.meetings.specs.declared.class.Class.{Class}
 use Rattle.meetings.specs.declared.class.Met.{Met}
 use Rattle.meetings.specs.declared.class.Met.TheVariants.{Common, Apart, Over as MetOver}
-use Rattle.lines.specs.Twins.Lines.{AddLeft, line_added}
+use Rattle.lines.specs.Twins.Lines.{line_added}
 use Rattle.lines.specs.declared.line.Lines.{Lines}
 use Rattle.lines.specs.declared.line.Added.{Added}
 use Rattle.lines.specs.declared.line.Added.TheVariants.{Going as AddedGoing, Full as AddedFull}

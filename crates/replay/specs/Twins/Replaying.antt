@@ -1,11 +1,11 @@
 -- A path worked out again: what each function of replay.rt answers and leaves.
-use Rattle.std.specs.Prelude.{ℕ, zero, suc, ◌-◌, Bool, true, false, cond, List, eqb, leb}
+use Rattle.std.specs.Prelude.{ℕ, zero, suc, Bool, true, false, cond, List, eqb, leb}
 use Rattle.heap.specs.Twins.Moving.{Left}
 use Rattle.linking.specs.Twins.Code.{link_at}
 use Rattle.tracing.specs.Twins.Asking.{asked_at, is_call, taken_as}
 use Rattle.trails.specs.Twins.TrailCells.{taken_at, pending_at}
 use Rattle.saving.specs.declared.head.Node.{Node}
-use Rattle.saving.specs.Twins.Saving.{SaveLeft, save_left, saved_to, LoadLeft, loaded}
+use Rattle.saving.specs.Twins.Saving.{SaveLeft, save_left, saved_to, loaded}
 use Rattle.positions.specs.Twins.Positions.{after_step, taken_up}
 use Rattle.replay.specs.Twins.Rooms.{made_room}
 use Rattle.positions.specs.declared.position.Position.{Position}

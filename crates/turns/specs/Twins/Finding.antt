@@ -1,5 +1,5 @@
 -- What a walk has found, by value: what each function of found.rt answers.
-use Rattle.std.specs.Prelude.{ℕ, ◌+◌, min, true, false}
+use Rattle.std.specs.Prelude.{◌+◌, min, true, false}
 use Rattle.lines.specs.declared.line.Lines.{Lines}
 use Rattle.turns.specs.declared.found.Found.{Found}
 use Rattle.turns.specs.declared.found.Ending.{Ending}

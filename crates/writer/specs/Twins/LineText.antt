@@ -1,6 +1,6 @@
 -- The text of a line in cells: its steps, how many cells its inputs and its output have, how many non-equalities there are, then the
 -- cells of these.
-use Rattle.std.specs.Prelude.{ℕ, zero, suc, ◌+◌, ◌*◌, ◌%◌, min, Bool, cond, List, [], ◌∷◌, ◌++◌, eqb, ltb, length, get_or, drop}
+use Rattle.std.specs.Prelude.{ℕ, zero, suc, ◌+◌, ◌%◌, min, Bool, cond, List, [], ◌∷◌, ◌++◌, eqb, ltb, length, get_or, drop}
 use Rattle.language.specs.Bytes.{txt}
 use Rattle.listing.specs.Print.{digits}
 use Rattle.sets.specs.Twins.Copying.{part, tree_end, stands_in}

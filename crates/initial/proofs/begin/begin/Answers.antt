@@ -1,5 +1,4 @@
 use Rattle.initial.specs.Twins.Beginning.{begun_at}
-use borrow.Author.Rules.{rules}
 use Rattle.initial.proofs.begin.begin.Goals as goal
 
 pub returns : goal.returns

@@ -1,5 +1,4 @@
 use Rattle.initial.specs.Twins.Beginning.{job_entered}
-use borrow.Author.Rules.{rules}
 use Rattle.initial.proofs.begin.enter_job.Goals as goal
 
 pub returns : goal.returns

@@ -1,8 +1,4 @@
-use mathlib.Core.Path.{◌≡◌}
-use Prim.Native.Nat.{◌-◌}
-use Rattle.initial.specs.Twins.Trees.{trees_entered}
 use Rattle.initial.proofs.InitialTurns.{trees_turn, trees_end, trees_less}
-use borrow.Author.Rules.{rules}
 use Rattle.initial.proofs.trees.enter_trees.Goals as goal
 
 pub loop-i-smaller : goal.loop-i-smaller

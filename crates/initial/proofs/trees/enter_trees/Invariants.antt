@@ -1,8 +1,6 @@
 use mathlib.Core.Path.{◌≡◌}
 use Prim.Native.Nat.{◌-◌}
 use Rattle.initial.specs.Twins.Trees.{trees_entered}
-use Rattle.initial.proofs.InitialTurns.{trees_turn, trees_end, trees_less}
-use borrow.Author.Rules.{rules}
 use Rattle.initial.proofs.trees.enter_trees.Given as goal
 
 abbrev pub invariant-loop-i : goal.invariant-loop-i

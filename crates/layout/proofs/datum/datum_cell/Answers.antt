@@ -1,6 +1,5 @@
 use borrow.Author.Tests.{eq-eqb, ne_eqb}
 use Rattle.layout.specs.Twins.Data.{datum_cell}
-use borrow.Author.Rules.{rules}
 use Rattle.layout.proofs.datum.datum_cell.Goals as goal
 
 pub returns-then-key-eq-CONS : goal.returns-then-key-eq-CONS

@@ -1,5 +1,4 @@
 use Rattle.values.proofs.ValueTurns.{cell_over, cell_done}
-use borrow.Author.Rules.{rules}
 use Rattle.layout.proofs.datum.lay_cell.Goals as goal
 
 pub returns-then-at-gt65534 : goal.returns-then-at-gt65534

@@ -1,7 +1,3 @@
-use mathlib.Core.Path.{◌≡◌}
-use Prim.Native.Nat.{◌-◌}
-use lib.ListN.{length}
-use Rattle.layout.specs.Twins.Data.{data_written}
 use Rattle.layout.proofs.LayoutTurns.{data_turn, data_end}
 use borrow.Author.Rules.{rules}
 use Rattle.layout.proofs.datum.lay_data.Goals as goal

@@ -1,6 +1,5 @@
 use borrow.Author.Tests.{eq-eqb, ne_eqb}
 use Rattle.layout.specs.Twins.Data.{datum_written}
-use borrow.Author.Rules.{rules}
 use Rattle.layout.proofs.datum.lay_datum.Goals as goal
 
 pub returns-then-code-eq0 : goal.returns-then-code-eq0

@@ -1,6 +1,5 @@
 use native.Mathlib.Omega.{arith}
 use Rattle.layout.specs.Twins.Fresh.{first_fresh_cells}
-use borrow.Author.Rules.{rules}
 use Rattle.layout.proofs.fresh.first_fresh.Goals as goal
 
 pub returns : goal.returns

@@ -1,10 +1,7 @@
 use Prim.Native.Nat.{◌-◌, ◌≤◌, max, min}
-use mathlib.Core.Path.{◌≡◌, ◌∙◌}
-use native.Mathlib.Omega.{arith}
+use mathlib.Core.Path.{◌≡◌}
 use Rattle.runs.specs.Twins.Runs.{run}
 use Rattle.layout.specs.Twins.Fresh.{largest_run}
-use Rattle.layout.proofs.LayoutTurns.{largest_turn, largest_end}
-use borrow.Author.Rules.{rules}
 use Rattle.layout.proofs.fresh.largest.Given as goal
 
 abbrev pub invariant-loop-i : goal.invariant-loop-i

@@ -1,5 +1,4 @@
 use Rattle.layout.specs.Twins.Laying.{ends_laid}
-use borrow.Author.Rules.{rules}
 use Rattle.layout.proofs.job.lay_ends.Goals as goal
 
 pub returns-in-Done : goal.returns-in-Done

@@ -1,5 +1,4 @@
 use Rattle.layout.specs.Twins.Laying.{output_laid}
-use borrow.Author.Rules.{rules}
 use Rattle.layout.proofs.job.lay_output.Goals as goal
 
 pub returns-then-run : goal.returns-then-run

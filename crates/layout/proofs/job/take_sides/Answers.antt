@@ -1,5 +1,4 @@
 use Rattle.layout.specs.Twins.Laying.{sides_taken}
-use borrow.Author.Rules.{rules}
 use Rattle.layout.proofs.job.take_sides.Goals as goal
 
 pub returns-then-copy : goal.returns-then-copy

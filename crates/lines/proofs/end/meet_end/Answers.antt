@@ -1,5 +1,4 @@
 use Rattle.lines.specs.Twins.Ends.{met_end}
-use borrow.Author.Rules.{rules}
 use Rattle.lines.proofs.end.meet_end.Goals as goal
 
 pub returns-in-Common : goal.returns-in-Common

@@ -1,5 +1,4 @@
 use Rattle.lines.specs.Twins.Ends.{output_met}
-use borrow.Author.Rules.{rules}
 use Rattle.lines.proofs.end.meet_output.Goals as goal
 
 pub returns-in-At : goal.returns-in-At

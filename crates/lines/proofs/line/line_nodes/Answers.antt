@@ -1,5 +1,4 @@
 use Rattle.lines.specs.Twins.Lines.{nodes_in_line}
-use borrow.Author.Rules.{rules}
 use Rattle.lines.proofs.line.line_nodes.Goals as goal
 
 pub returns : goal.returns

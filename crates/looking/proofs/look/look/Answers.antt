@@ -1,5 +1,4 @@
 use Rattle.looking.specs.Twins.Looking.{look_at}
-use borrow.Author.Rules.{rules}
 use Rattle.looking.proofs.look.look.Goals as goal
 
 pub returns-in-At : goal.returns-in-At

@@ -1,6 +1,5 @@
 use borrow.Author.Tests.{lt-ltb, le-ltb, eq-eqb, ne_eqb}
 use Rattle.looking.specs.Twins.Looking.{tested_at}
-use borrow.Author.Rules.{rules}
 use Rattle.looking.proofs.look.test_range.Goals as goal
 
 pub returns-then-from-gt65534 : goal.returns-then-from-gt65534

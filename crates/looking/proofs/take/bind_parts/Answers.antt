@@ -1,5 +1,4 @@
 use Rattle.looking.specs.Twins.Taking.{parts_bound}
-use borrow.Author.Rules.{rules}
 use Rattle.looking.proofs.take.bind_parts.Goals as goal
 
 pub returns-in-Done : goal.returns-in-Done

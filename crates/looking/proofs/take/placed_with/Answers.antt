@@ -1,5 +1,4 @@
 use Rattle.looking.specs.Twins.Taking.{placed_with}
-use borrow.Author.Rules.{rules}
 use Rattle.looking.proofs.take.placed_with.Goals as goal
 
 pub returns-in-Done : goal.returns-in-Done

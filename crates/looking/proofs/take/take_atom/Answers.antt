@@ -1,5 +1,4 @@
 use Rattle.looking.specs.Twins.Taking.{atom_taken}
-use borrow.Author.Rules.{rules}
 use Rattle.looking.proofs.take.take_atom.Goals as goal
 
 pub returns : goal.returns

@@ -1,5 +1,4 @@
 use Rattle.looking.specs.Twins.Taking.{pair_taken}
-use borrow.Author.Rules.{rules}
 use Rattle.looking.proofs.take.take_pair.Goals as goal
 
 pub returns : goal.returns

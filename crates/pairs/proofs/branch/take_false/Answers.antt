@@ -1,5 +1,4 @@
 use Rattle.pairs.specs.Twins.Branching.{false_taken}
-use borrow.Author.Rules.{rules}
 use Rattle.pairs.proofs.branch.take_false.Goals as goal
 
 pub returns-in-Atom : goal.returns-in-Atom

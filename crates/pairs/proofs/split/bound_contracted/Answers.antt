@@ -1,5 +1,4 @@
 use Rattle.pairs.specs.Twins.Splitting.{bound_contracted}
-use borrow.Author.Rules.{rules}
 use Rattle.pairs.proofs.split.bound_contracted.Goals as goal
 
 pub returns-in-Done : goal.returns-in-Done

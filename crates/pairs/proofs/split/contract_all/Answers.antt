@@ -1,5 +1,4 @@
 use Rattle.pairs.specs.Twins.Splitting.{contracted_all}
-use borrow.Author.Rules.{rules}
 use Rattle.pairs.proofs.split.contract_all.Goals as goal
 
 pub returns : goal.returns

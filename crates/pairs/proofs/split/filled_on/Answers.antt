@@ -1,5 +1,4 @@
 use Rattle.pairs.specs.Twins.Splitting.{filled_on}
-use borrow.Author.Rules.{rules}
 use Rattle.pairs.proofs.split.filled_on.Goals as goal
 
 pub returns-in-Done : goal.returns-in-Done

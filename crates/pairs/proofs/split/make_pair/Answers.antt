@@ -1,6 +1,5 @@
 use borrow.Author.Tests.{lt-ltb, le-ltb}
 use Rattle.pairs.specs.Twins.Splitting.{pair_made}
-use borrow.Author.Rules.{rules}
 use Rattle.pairs.proofs.split.make_pair.Goals as goal
 
 pub returns-then-used-gt65532 : goal.returns-then-used-gt65532

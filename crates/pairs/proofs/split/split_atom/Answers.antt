@@ -1,5 +1,4 @@
 use Rattle.pairs.specs.Twins.Splitting.{atom_split}
-use borrow.Author.Rules.{rules}
 use Rattle.pairs.proofs.split.split_atom.Goals as goal
 
 pub returns-in-Numbers : goal.returns-in-Numbers

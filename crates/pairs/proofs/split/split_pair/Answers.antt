@@ -1,5 +1,4 @@
 use Rattle.pairs.specs.Twins.Splitting.{pair_split}
-use borrow.Author.Rules.{rules}
 use Rattle.pairs.proofs.split.split_pair.Goals as goal
 
 pub returns-in-Numbers : goal.returns-in-Numbers

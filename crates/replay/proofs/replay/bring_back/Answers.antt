@@ -1,5 +1,4 @@
 use Rattle.replay.specs.Twins.Replaying.{brought_back}
-use borrow.Author.Rules.{rules}
 use Rattle.replay.proofs.replay.bring_back.Goals as goal
 
 pub returns : goal.returns

@@ -1,7 +1,4 @@
-use mathlib.Core.Path.{◌≡◌}
-use Rattle.replay.specs.Twins.Replaying.{follow_from}
 use Rattle.replay.proofs.FollowTurns.{follow_turn, follow_end}
-use borrow.Author.Rules.{rules}
 use Rattle.replay.proofs.replay.follow.Goals as goal
 
 pub returns-then-is_there : goal.returns-then-is_there

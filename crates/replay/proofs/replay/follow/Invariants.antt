@@ -1,7 +1,5 @@
 use mathlib.Core.Path.{◌≡◌}
 use Rattle.replay.specs.Twins.Replaying.{follow_from}
-use Rattle.replay.proofs.FollowTurns.{follow_turn, follow_end}
-use borrow.Author.Rules.{rules}
 use Rattle.replay.proofs.replay.follow.Given as goal
 
 abbrev pub invariant-loop-left : goal.invariant-loop-left

@@ -1,5 +1,4 @@
 use Rattle.replay.specs.Twins.Replaying.{follow_step}
-use borrow.Author.Rules.{rules}
 use Rattle.replay.proofs.replay.follow_step.Goals as goal
 
 pub returns-then-is_call : goal.returns-then-is_call

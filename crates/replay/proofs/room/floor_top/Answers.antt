@@ -1,5 +1,4 @@
 use Rattle.replay.specs.Twins.Rooms.{floor_top}
-use borrow.Author.Rules.{rules}
 use Rattle.replay.proofs.room.floor_top.Goals as goal
 
 pub returns-then-is_full : goal.returns-then-is_full

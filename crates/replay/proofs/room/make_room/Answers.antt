@@ -1,5 +1,4 @@
 use Rattle.replay.specs.Twins.Rooms.{made_room}
-use borrow.Author.Rules.{rules}
 use Rattle.replay.proofs.room.make_room.Goals as goal
 
 pub returns-then-is_tight : goal.returns-then-is_tight

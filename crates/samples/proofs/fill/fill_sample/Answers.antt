@@ -1,6 +1,6 @@
 use lib.ListN.{get_or}
 use Rattle.sets.specs.Twins.Fill.{renamed}
-use Prim.Native.Nat.{◌+◌, ◌-◌, ◌≤◌, min}
+use Prim.Native.Nat.{◌+◌, ◌-◌}
 use mathlib.Core.Path.{◌≡◌, ap, ◌∙◌, sym}
 use native.Mathlib.Omega.{arith}
 use Rattle.samples.specs.Twins.Filling.{sampled_from}

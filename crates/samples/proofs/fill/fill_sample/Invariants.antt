@@ -1,11 +1,6 @@
-use lib.ListN.{get_or}
-use Rattle.sets.specs.Twins.Fill.{renamed}
-use Prim.Native.Nat.{◌+◌, ◌-◌, ◌≤◌, min}
-use mathlib.Core.Path.{◌≡◌, ap, ◌∙◌, sym}
-use native.Mathlib.Omega.{arith}
+use Prim.Native.Nat.{◌-◌, ◌≤◌, min}
+use mathlib.Core.Path.{◌≡◌}
 use Rattle.samples.specs.Twins.Filling.{sampled_from}
-use Rattle.samples.proofs.Turns.{sampled_none, sampled_variable, sampled_other}
-use borrow.Author.Rules.{rules}
 use Rattle.samples.proofs.fill.fill_sample.Given as goal
 
 abbrev pub invariant-loop-i : goal.invariant-loop-i

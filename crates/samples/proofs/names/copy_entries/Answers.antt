@@ -1,6 +1,6 @@
 use lib.ListN.{set}
-use Prim.Native.Nat.{◌+◌, ◌-◌, ◌≤◌}
-use mathlib.Core.Path.{◌≡◌, refl, ap, ◌∙◌, sym}
+use Prim.Native.Nat.{◌+◌, ◌-◌}
+use mathlib.Core.Path.{refl, ap, ◌∙◌, sym}
 use native.Mathlib.Omega.{arith}
 use Rattle.samples.specs.Twins.Naming.{copied_from}
 use Rattle.samples.proofs.Turns.{copied_none, copied_more}

@@ -1,10 +1,6 @@
-use lib.ListN.{set}
-use Prim.Native.Nat.{◌+◌, ◌-◌, ◌≤◌}
-use mathlib.Core.Path.{◌≡◌, refl, ap, ◌∙◌, sym}
-use native.Mathlib.Omega.{arith}
+use Prim.Native.Nat.{◌-◌, ◌≤◌}
+use mathlib.Core.Path.{◌≡◌}
 use Rattle.samples.specs.Twins.Naming.{copied_from}
-use Rattle.samples.proofs.Turns.{copied_none, copied_more}
-use borrow.Author.Rules.{rules}
 use Rattle.samples.proofs.names.copy_entries.Given as goal
 
 abbrev pub invariant-loop-i : goal.invariant-loop-i

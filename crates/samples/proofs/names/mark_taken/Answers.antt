@@ -1,5 +1,5 @@
 use lib.ListN.{set}
-use Prim.Native.Nat.{◌+◌, ◌-◌, ◌≤◌, ◌/◌}
+use Prim.Native.Nat.{◌+◌, ◌-◌, ◌/◌}
 use mathlib.Core.Path.{◌≡◌, refl, ap, ◌∙◌, sym}
 use native.Mathlib.Omega.{arith}
 use lib.ListN.{length}

@@ -1,11 +1,7 @@
-use lib.ListN.{set}
-use Prim.Native.Nat.{◌+◌, ◌-◌, ◌≤◌, ◌/◌}
-use mathlib.Core.Path.{◌≡◌, refl, ap, ◌∙◌, sym}
-use native.Mathlib.Omega.{arith}
+use Prim.Native.Nat.{◌-◌, ◌≤◌, ◌/◌}
+use mathlib.Core.Path.{◌≡◌}
 use lib.ListN.{length}
 use Rattle.samples.specs.Twins.Naming.{marked_from}
-use Rattle.samples.proofs.Turns.{marked_none, marked_more}
-use borrow.Author.Rules.{rules}
 use Rattle.samples.proofs.names.mark_taken.Given as goal
 
 abbrev pub invariant-loop-k : goal.invariant-loop-k

@@ -1,5 +1,4 @@
 use Rattle.samples.proofs.Turns.{table_made}
-use borrow.Author.Rules.{rules}
 use Rattle.samples.proofs.names.name_table.Goals as goal
 
 pub returns : goal.returns

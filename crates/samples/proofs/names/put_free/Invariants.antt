@@ -1,9 +1,6 @@
 use Prim.Native.Nat.{◌+◌, ◌-◌, ◌≤◌}
-use mathlib.Core.Path.{◌≡◌, refl, ap, ◌∙◌, sym}
-use native.Mathlib.Omega.{arith}
+use mathlib.Core.Path.{◌≡◌}
 use Rattle.samples.specs.Twins.Naming.{free_from}
-use Rattle.samples.proofs.Turns.{free_none, free_one, free_other}
-use borrow.Author.Rules.{rules}
 use Rattle.samples.proofs.names.put_free.Given as goal
 
 abbrev pub invariant-loop-n : goal.invariant-loop-n

@@ -5,7 +5,6 @@ use lib.ListN.{length, drop, length-drop}
 use lib.Seq.{take_all}
 use borrow.Author.Tests.{eq-eqb, ne_eqb}
 use Rattle.samples.specs.Twins.Numbers.{number_of}
-use borrow.Author.Rules.{rules}
 use Rattle.samples.proofs.number.number_of.Goals as goal
 
 pub returns-then-byte-eq81 : goal.returns-then-byte-eq81

@@ -1,6 +1,5 @@
 use borrow.Author.Tests.{lt-ltb, le-ltb, eq-eqb, ne_eqb}
 use Rattle.samples.specs.Twins.Numbers.{numeral_of}
-use borrow.Author.Rules.{rules}
 use Rattle.samples.proofs.number.numeral_of.Goals as goal
 
 pub returns-then-word-gt4 : goal.returns-then-word-gt4

@@ -1,6 +1,5 @@
 use Rattle.tracing.specs.Twins.Asking.{asked_at}
 use borrow.Author.Tests.{eq-eqb, ne_eqb}
-use borrow.Author.Rules.{rules}
 use Rattle.tracing.proofs.ask.ask.Goals as goal
 
 pub returns-then-mark-eq-CALL : goal.returns-then-mark-eq-CALL

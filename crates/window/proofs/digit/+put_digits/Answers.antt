@@ -1,11 +1,7 @@
 use mathlib.Core.Path.{ap, ◌∙◌, sym}
-use native.Mathlib.Omega.{arith}
 use Rattle.window.specs.Twins.Sink.{puts}
 use Rattle.window.proofs.SinkLaws.{behind}
 use Rattle.window.proofs.DigitLaws.{digits_one, digits_more}
-use borrow.Author.Rules.{rules}
-use Prim.Native.Nat.{ℕ, ◌<◌}
-use Rattle.window.proofs.digit.+put_digits.{statement}
 use Rattle.window.proofs.digit.+put_digits.Goals as goal
 
 pub returns-then-n-lt10 : goal.returns-then-n-lt10

@@ -1,7 +1,6 @@
 use borrow.Author.Tests.{eq-eqb, ne_eqb}
 use Rattle.window.proofs.SinkLaws.{behind}
 use Rattle.window.specs.Twins.TreeText.{leaf_text}
-use borrow.Author.Rules.{rules}
 use Rattle.window.proofs.leaf.put_leaf.Goals as goal
 
 pub returns-then-code-eq1 : goal.returns-then-code-eq1

@@ -1,5 +1,4 @@
 use Rattle.window.proofs.SinkLaws.{behind}
-use borrow.Author.Rules.{rules}
 use Rattle.window.proofs.leaf.put_new.Goals as goal
 
 pub returns : goal.returns

@@ -4,7 +4,6 @@ use mathlib.Core.List.{List, [], ◌∷◌}
 use Rattle.window.specs.Twins.Sink.{puts}
 use Rattle.window.proofs.SinkLaws.{behind}
 use Rattle.window.proofs.SymbolLaws.{text_name, no_name, new_name_lem, no_new_name}
-use borrow.Author.Rules.{rules}
 use Rattle.window.proofs.leaf.put_symbol.Goals as goal
 
 pub returns-then-k-symbols : goal.returns-then-k-symbols

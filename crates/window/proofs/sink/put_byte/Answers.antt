@@ -1,6 +1,5 @@
 use borrow.Author.Tests.{lt-ltb, le-ltb}
 use Rattle.window.specs.Twins.Sink.{pushed, puts}
-use borrow.Author.Rules.{rules}
 use Rattle.window.proofs.sink.put_byte.Goals as goal
 
 pub returns-then-skip-gt0 : goal.returns-then-skip-gt0

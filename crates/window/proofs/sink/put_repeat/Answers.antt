@@ -1,9 +1,7 @@
-use mathlib.Core.Path.{◌≡◌, refl, ap, ◌∙◌, sym}
-use lib.ListN.{length, replicate}
-use Rattle.window.specs.Twins.Sink.{sink, puts}
+use mathlib.Core.Path.{refl, ap, ◌∙◌, sym}
+use Rattle.window.specs.Twins.Sink.{puts}
 use Rattle.window.proofs.SinkLaws.{onward, puts_none}
 use Rattle.window.proofs.TreeTurns.{repeat_step, repeat_end}
-use borrow.Author.Rules.{rules}
 use Rattle.window.proofs.sink.put_repeat.Goals as goal
 
 pub loop-left-init : goal.loop-left-init

@@ -1,9 +1,6 @@
-use mathlib.Core.Path.{◌≡◌, refl, ap, ◌∙◌, sym}
+use mathlib.Core.Path.{◌≡◌}
 use lib.ListN.{length, replicate}
 use Rattle.window.specs.Twins.Sink.{sink, puts}
-use Rattle.window.proofs.SinkLaws.{onward, puts_none}
-use Rattle.window.proofs.TreeTurns.{repeat_step, repeat_end}
-use borrow.Author.Rules.{rules}
 use Rattle.window.proofs.sink.put_repeat.Given as goal
 
 abbrev pub invariant-loop-left : goal.invariant-loop-left

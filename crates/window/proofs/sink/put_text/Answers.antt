@@ -1,10 +1,8 @@
-use Prim.Native.Nat.{◌-◌}
-use mathlib.Core.Path.{◌≡◌, refl, ap, ◌∙◌, sym}
-use lib.ListN.{length, drop, drop_of_length-le}
-use Rattle.window.specs.Twins.Sink.{sink, puts}
+use mathlib.Core.Path.{refl, ap, ◌∙◌, sym}
+use lib.ListN.{drop_of_length-le}
+use Rattle.window.specs.Twins.Sink.{puts}
 use Rattle.window.proofs.SinkLaws.{onward, puts_none}
 use Rattle.window.proofs.TreeTurns.{text_step}
-use borrow.Author.Rules.{rules}
 use Rattle.window.proofs.sink.put_text.Goals as goal
 
 pub loop-i-init : goal.loop-i-init

@@ -1,10 +1,7 @@
 use Prim.Native.Nat.{◌-◌}
-use mathlib.Core.Path.{◌≡◌, refl, ap, ◌∙◌, sym}
-use lib.ListN.{length, drop, drop_of_length-le}
+use mathlib.Core.Path.{◌≡◌}
+use lib.ListN.{length, drop}
 use Rattle.window.specs.Twins.Sink.{sink, puts}
-use Rattle.window.proofs.SinkLaws.{onward, puts_none}
-use Rattle.window.proofs.TreeTurns.{text_step}
-use borrow.Author.Rules.{rules}
 use Rattle.window.proofs.sink.put_text.Given as goal
 
 abbrev pub invariant-loop-i : goal.invariant-loop-i

@@ -1,9 +1,7 @@
-use Prim.Native.Nat.{ℕ, ◌+◌, ◌-◌, ◌≤◌}
-use mathlib.Core.Path.{◌≡◌, ap, ◌∙◌, sym}
+use Prim.Native.Nat.{ℕ, ◌+◌, ◌-◌}
+use mathlib.Core.Path.{ap, ◌∙◌, sym}
 use native.Mathlib.Omega.{arith}
-use Rattle.window.specs.Twins.TreeText.{closings}
 use Rattle.window.proofs.TreeTurns.{closings_end, closings_leaf, closings_waits, closings_ends, closings_joins}
-use borrow.Author.Rules.{rules}
 use Rattle.window.proofs.tree.count_closings.Goals as goal
 
 pub loop-i-init : goal.loop-i-init

@@ -1,9 +1,6 @@
-use Prim.Native.Nat.{ℕ, ◌+◌, ◌-◌, ◌≤◌}
-use mathlib.Core.Path.{◌≡◌, ap, ◌∙◌, sym}
-use native.Mathlib.Omega.{arith}
+use Prim.Native.Nat.{◌+◌, ◌≤◌}
+use mathlib.Core.Path.{◌≡◌}
 use Rattle.window.specs.Twins.TreeText.{closings}
-use Rattle.window.proofs.TreeTurns.{closings_end, closings_leaf, closings_waits, closings_ends, closings_joins}
-use borrow.Author.Rules.{rules}
 use Rattle.window.proofs.tree.count_closings.Given as goal
 
 abbrev pub invariant-loop-i : goal.invariant-loop-i

@@ -2,7 +2,6 @@ use borrow.Author.Tests.{lt-ltb, le-ltb}
 use Rattle.window.proofs.SinkLaws.{behind}
 use mathlib.Core.List.{append-nil}
 use Rattle.window.specs.Twins.TreeText.{behind_leaf}
-use borrow.Author.Rules.{rules}
 use Rattle.window.proofs.tree.put_behind.Goals as goal
 
 pub returns-then-i-cells : goal.returns-then-i-cells

@@ -1,11 +1,8 @@
-use mathlib.Core.Path.{◌≡◌, refl, ap, ◌∙◌, sym}
-use Prim.Native.Nat.{◌-◌}
-use lib.ListN.{length}
-use Rattle.window.specs.Twins.Sink.{sink, puts}
+use mathlib.Core.Path.{refl, ap, ◌∙◌, sym}
+use Rattle.window.specs.Twins.Sink.{puts}
 use Rattle.window.proofs.SinkLaws.{behind, onward, puts_none}
-use Rattle.window.specs.Twins.TreeText.{symbol_text, tree_from, tree_text}
+use Rattle.window.specs.Twins.TreeText.{symbol_text}
 use Rattle.window.proofs.TreeTurns.{tree_start, tree_pair, tree_leaf, tree_end_lem}
-use borrow.Author.Rules.{rules}
 use Rattle.window.proofs.tree.put_tree.Goals as goal
 
 pub loop-i-init : goal.loop-i-init

@@ -1,11 +1,8 @@
-use mathlib.Core.Path.{◌≡◌, refl, ap, ◌∙◌, sym}
+use mathlib.Core.Path.{◌≡◌}
 use Prim.Native.Nat.{◌-◌}
 use lib.ListN.{length}
 use Rattle.window.specs.Twins.Sink.{sink, puts}
-use Rattle.window.proofs.SinkLaws.{behind, onward, puts_none}
 use Rattle.window.specs.Twins.TreeText.{symbol_text, tree_from, tree_text}
-use Rattle.window.proofs.TreeTurns.{tree_start, tree_pair, tree_leaf, tree_end_lem}
-use borrow.Author.Rules.{rules}
 use Rattle.window.proofs.tree.put_tree.Given as goal
 
 abbrev pub invariant-loop-i : goal.invariant-loop-i

@@ -1,6 +1,5 @@
 use borrow.Author.Tests.{eq-eqb, ne_eqb}
 use Rattle.writer.specs.Twins.LineText.{past_at}
-use borrow.Author.Rules.{rules}
 use Rattle.writer.proofs.binding.past.Goals as goal
 
 pub returns-then-c-eq-PAIR : goal.returns-then-c-eq-PAIR

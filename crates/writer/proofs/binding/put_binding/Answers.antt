@@ -1,7 +1,6 @@
 use borrow.Author.Tests.{lt-ltb, le-ltb, eq-eqb, ne_eqb}
 use Rattle.window.specs.Twins.Sink.{puts}
 use Rattle.writer.specs.Twins.LineText.{binding_at}
-use borrow.Author.Rules.{rules}
 use Rattle.writer.proofs.binding.put_binding.Goals as goal
 
 pub returns-then-c-lt2 : goal.returns-then-c-lt2

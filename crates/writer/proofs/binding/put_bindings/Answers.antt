@@ -1,12 +1,8 @@
-use mathlib.Core.Path.{◌≡◌, refl, ap, ◌∙◌, sym}
-use Prim.Native.Nat.{◌-◌}
-use lib.ListN.{length}
-use Rattle.window.specs.Twins.Sink.{sink, puts}
+use mathlib.Core.Path.{refl, ap, ◌∙◌, sym}
+use Rattle.window.specs.Twins.Sink.{puts}
 use Rattle.window.proofs.SinkLaws.{onward, puts_none}
 use Rattle.window.specs.Twins.TreeText.{symbol_text}
-use Rattle.writer.specs.Twins.LineText.{bindings_from, bindings_text}
 use Rattle.writer.proofs.TextTurns.{bindings_start, bindings_step, bindings_end}
-use borrow.Author.Rules.{rules}
 use Rattle.writer.proofs.binding.put_bindings.Goals as goal
 
 pub loop-i-init : goal.loop-i-init

@@ -1,12 +1,9 @@
-use mathlib.Core.Path.{◌≡◌, refl, ap, ◌∙◌, sym}
+use mathlib.Core.Path.{◌≡◌}
 use Prim.Native.Nat.{◌-◌}
 use lib.ListN.{length}
 use Rattle.window.specs.Twins.Sink.{sink, puts}
-use Rattle.window.proofs.SinkLaws.{onward, puts_none}
 use Rattle.window.specs.Twins.TreeText.{symbol_text}
 use Rattle.writer.specs.Twins.LineText.{bindings_from, bindings_text}
-use Rattle.writer.proofs.TextTurns.{bindings_start, bindings_step, bindings_end}
-use borrow.Author.Rules.{rules}
 use Rattle.writer.proofs.binding.put_bindings.Given as goal
 
 abbrev pub invariant-loop-i : goal.invariant-loop-i

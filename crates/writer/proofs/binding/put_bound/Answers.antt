@@ -1,6 +1,5 @@
 use Rattle.window.proofs.SinkLaws.{behind}
 use Rattle.writer.specs.Twins.LineText.{binding_text}
-use borrow.Author.Rules.{rules}
 use Rattle.writer.proofs.binding.put_bound.Goals as goal
 
 pub returns : goal.returns

@@ -1,6 +1,5 @@
 use Rattle.window.proofs.SinkLaws.{behind}
 use Rattle.writer.specs.Twins.LineText.{line_text}
-use borrow.Author.Rules.{rules}
 use Rattle.writer.proofs.line.put_line.Goals as goal
 
 pub returns : goal.returns

@@ -1,16 +1,9 @@
-use mathlib.Core.Path.{◌≡◌, refl, ap, ◌∙◌, sym as inv}
-use Prim.Native.Nat.{ℕ, ◌+◌, ◌-◌, ◌<◌, min}
-use mathlib.Core.List.{List, ◌++◌}
-use native.Mathlib.Omega.{arith}
-use lib.ListN.{length, drop, length-drop}
+use mathlib.Core.Path.{◌≡◌}
+use Prim.Native.Nat.{◌-◌}
+use lib.ListN.{length, drop}
 use Rattle.window.specs.Twins.Sink.{sink, puts}
-use Rattle.window.proofs.SinkLaws.{behind, onward, puts_none, puts_full}
 use Rattle.window.specs.Twins.TreeText.{symbol_text}
-use Rattle.writer.specs.Twins.LineText.{line_text, lines_text}
-use Rattle.writer.specs.Twins.LineCells.{line_end}
-use Rattle.writer.specs.Twins.SampleText.{sample_if}
-use Rattle.writer.proofs.TextTurns.{lines_start, lines_out, lines_step, lines_end, drop_ahead}
-use borrow.Author.Rules.{rules}
+use Rattle.writer.specs.Twins.LineText.{lines_text}
 use Rattle.writer.proofs.line.put_lines.Given as goal
 
 abbrev pub invariant-loop-i : goal.invariant-loop-i

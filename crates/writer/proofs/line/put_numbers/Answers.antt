@@ -1,5 +1,4 @@
 use Rattle.window.proofs.SinkLaws.{behind}
-use borrow.Author.Rules.{rules}
 use Rattle.writer.proofs.line.put_numbers.Goals as goal
 
 pub returns : goal.returns

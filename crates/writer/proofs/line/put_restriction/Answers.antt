@@ -1,13 +1,9 @@
-use mathlib.Core.Path.{◌≡◌, refl, ap, ◌∙◌, sym}
-use Prim.Native.Nat.{◌≤◌, ◌-◌}
+use mathlib.Core.Path.{refl, ap, ◌∙◌, sym}
 use native.Mathlib.Omega.{arith}
-use lib.ListN.{length, drop}
-use Rattle.window.specs.Twins.Sink.{sink, puts}
+use Rattle.window.specs.Twins.Sink.{puts}
 use Rattle.window.proofs.SinkLaws.{onward, puts_none}
 use Rattle.window.specs.Twins.TreeText.{symbol_text}
-use Rattle.writer.specs.Twins.LineText.{restriction_text}
 use Rattle.writer.proofs.TextTurns.{restriction_step, restriction_end}
-use borrow.Author.Rules.{rules}
 use Rattle.writer.proofs.line.put_restriction.Goals as goal
 
 pub loop-i-init : goal.loop-i-init

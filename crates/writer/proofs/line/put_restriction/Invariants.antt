@@ -1,13 +1,9 @@
-use mathlib.Core.Path.{◌≡◌, refl, ap, ◌∙◌, sym}
+use mathlib.Core.Path.{◌≡◌}
 use Prim.Native.Nat.{◌≤◌, ◌-◌}
-use native.Mathlib.Omega.{arith}
 use lib.ListN.{length, drop}
 use Rattle.window.specs.Twins.Sink.{sink, puts}
-use Rattle.window.proofs.SinkLaws.{onward, puts_none}
 use Rattle.window.specs.Twins.TreeText.{symbol_text}
 use Rattle.writer.specs.Twins.LineText.{restriction_text}
-use Rattle.writer.proofs.TextTurns.{restriction_step, restriction_end}
-use borrow.Author.Rules.{rules}
 use Rattle.writer.proofs.line.put_restriction.Given as goal
 
 abbrev pub invariant-loop-i : goal.invariant-loop-i

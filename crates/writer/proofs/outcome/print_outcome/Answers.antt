@@ -5,7 +5,6 @@ use Rattle.window.specs.Twins.Sink.{puts}
 use Rattle.window.specs.Twins.TreeText.{symbol_text}
 use Rattle.writer.specs.Twins.OutcomeText.{outcome_text}
 use Rattle.window.proofs.SinkLaws.{printed}
-use borrow.Author.Rules.{rules}
 use Rattle.writer.proofs.outcome.print_outcome.Goals as goal
 
 pub returns : goal.returns

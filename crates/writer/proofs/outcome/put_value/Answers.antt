@@ -1,6 +1,5 @@
 use Rattle.window.proofs.SinkLaws.{behind}
 use Rattle.writer.specs.Twins.OutcomeText.{value_text}
-use borrow.Author.Rules.{rules}
 use Rattle.writer.proofs.outcome.put_value.Goals as goal
 
 pub returns : goal.returns

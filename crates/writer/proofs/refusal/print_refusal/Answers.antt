@@ -1,5 +1,4 @@
 use Rattle.window.proofs.SinkLaws.{printed}
-use borrow.Author.Rules.{rules}
 use Rattle.writer.proofs.refusal.print_refusal.Goals as goal
 
 pub returns : goal.returns

@@ -2,7 +2,6 @@ use mathlib.Core.Path.{ap, ◌∙◌}
 use Rattle.window.specs.Twins.Sink.{puts}
 use Rattle.window.proofs.SinkLaws.{behind}
 use Rattle.writer.proofs.TextTurns.{refusal_text_lem}
-use borrow.Author.Rules.{rules}
 use Rattle.writer.proofs.refusal.put_refusal.Goals as goal
 
 pub returns : goal.returns

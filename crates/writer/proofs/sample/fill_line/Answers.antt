@@ -1,5 +1,4 @@
 use Rattle.writer.proofs.TextTurns.{filled_line_lem}
-use borrow.Author.Rules.{rules}
 use Rattle.writer.proofs.sample.fill_line.Goals as goal
 
 pub returns : goal.returns

@@ -1,5 +1,4 @@
 use Rattle.writer.specs.Twins.SampleText.{filled_cells}
-use borrow.Author.Rules.{rules}
 use Rattle.writer.proofs.sample.put_filled.Goals as goal
 
 pub returns : goal.returns

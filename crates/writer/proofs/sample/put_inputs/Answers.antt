@@ -1,13 +1,9 @@
-use Prim.Native.Nat.{◌-◌}
-use mathlib.Core.Path.{◌≡◌, refl, ap, ◌∙◌, sym as inv}
+use mathlib.Core.Path.{refl, ap, ◌∙◌, sym as inv}
 use native.Mathlib.Omega.{arith}
-use lib.ListN.{length}
-use Rattle.window.specs.Twins.Sink.{sink, puts}
+use Rattle.window.specs.Twins.Sink.{puts}
 use Rattle.window.specs.Twins.TreeText.{symbol_text, tree_text}
 use Rattle.window.proofs.SinkLaws.{behind, onward, puts_none}
-use Rattle.writer.specs.Twins.SampleText.{inputs_from, inputs_text}
 use Rattle.writer.proofs.TextTurns.{tree_further, inputs_start, inputs_step, inputs_end}
-use borrow.Author.Rules.{rules}
 use Rattle.writer.proofs.sample.put_inputs.Goals as goal
 
 pub loop-at-init : goal.loop-at-init

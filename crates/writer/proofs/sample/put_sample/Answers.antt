@@ -1,7 +1,6 @@
 use mathlib.Core.Path.{◌∙◌}
 use Rattle.window.proofs.SinkLaws.{behind}
 use Rattle.writer.specs.Twins.SampleText.{sample_text}
-use borrow.Author.Rules.{rules}
 use Rattle.writer.proofs.sample.put_sample.Goals as goal
 
 pub shape_of-out : goal.shape_of-out

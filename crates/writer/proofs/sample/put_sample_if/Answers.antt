@@ -1,6 +1,5 @@
 use mathlib.Core.Path.{sym as inv}
 use Rattle.window.proofs.SinkLaws.{puts_none}
-use borrow.Author.Rules.{rules}
 use Rattle.writer.proofs.sample.put_sample_if.Goals as goal
 
 pub returns-then-samples : goal.returns-then-samples
