@@ -1,15 +1,15 @@
 -- What a run comes to at an end: its value in the answer storage, or 21. And the tests of 21 and of an end.
 use Prim.Native.Nat.{ℕ, zero, suc, ◌+◌, ◌-◌, ◌≤◌, ◌<◌, min}
-use mathlib.Core.Path.{◌≡◌, refl, ap, subst, ◌∙◌}
+use mathlib.Core.Path.{◌≡◌, ap, subst, ◌∙◌}
 use mathlib.Core.Bool.{Bool, true, false}
-use mathlib.Core.List.{List, [], ◌∷◌, ◌++◌, map}
+use mathlib.Core.List.{List, [], ◌∷◌, ◌++◌}
 use mathlib.Core.Logic.{inl, inr}
 use native.Mathlib.Omega.{arith}
 use native.Mathlib.Decide.{dec_le}
 use lib.Dec.{ltb}
 use lib.ListN.{length, drop, length-append}
 use borrow.Author.Tests.{lt-ltb}
-use Rattle.expressions.specs.Expression.{Value, atom, cons, sym, Exp, atm, evar, pair, nodes, nodes_all}
+use Rattle.expressions.specs.Expression.{Value, sym, Exp, atm, nodes_all}
 use Rattle.expressions.specs.Substitution.{apply}
 use Rattle.language.specs.Program.{eqa, consp, Term, call, conditional, result, Param, Prog}
 use Rattle.semantics.specs.Environment.{Env}

@@ -15,7 +15,7 @@ use Rattle.language.specs.Program.{eqa, consp, Term, call, conditional, result, 
 use Rattle.language.specs.Scope.{Scope}
 use Rattle.semantics.specs.Environment.{lookup, bind_params}
 use Rattle.semantics.specs.Figure4.{ValueEnv}
-use Rattle.semantics.specs.Evaluate.{ground_of, end, go, step}
+use Rattle.semantics.specs.Evaluate.{ground_of, go, step}
 use Rattle.semantics.specs.Embedding.{embed}
 use Rattle.semantics.proofs.EmbeddedStates.{embed_env}
 use Rattle.semantics.specs.Configuration.{ExpEnv, subst_of_env, state, nodes_values, Configuration}

@@ -5,7 +5,7 @@ use mathlib.Core.List.{List, [], ◌∷◌, ◌++◌, append-nil}
 use mathlib.Core.Logic.{◌⊎◌, inl, inr}
 use native.Mathlib.Omega.{arith}
 use lib.ListN.{length, drop, get_or, length-append}
-use Rattle.expressions.specs.Expression.{sym, avar, Exp, atm, evar, pair, nodes}
+use Rattle.expressions.specs.Expression.{sym, avar, Exp, atm, evar, nodes}
 use Rattle.expressions.specs.Substitution.{Substitution, apply}
 use Rattle.language.specs.Program.{Param, pe, pa}
 use Rattle.semantics.specs.Configuration.{subst_of_env}

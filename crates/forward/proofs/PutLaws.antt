@@ -14,7 +14,7 @@ use Rattle.sets.specs.Twins.Copying.{CopyAnswer, copied}
 use Rattle.sets.specs.Cells.{cells}
 use Rattle.sets.specs.declared.fill.Filled.TheVariants.{Done, Over}
 use Rattle.sets.proofs.CellLaws.{cells_nodes, copied_done}
-use Rattle.runs.specs.Twins.Runs.{cells_at, run}
+use Rattle.runs.specs.Twins.Runs.{cells_at}
 use Rattle.runs.proofs.RunLaws.{Below}
 use Rattle.heap.proofs.HeapLaws.{Holds}
 use Rattle.heap.proofs.NodeLaws.{holds_nodes}

@@ -1,9 +1,9 @@
 -- `run`: what it answers and leaves over two texts is what its definition says.
-use Prim.Native.Nat.{ℕ, ◌+◌, ◌-◌, ◌≤◌, ◌<◌}
+use Prim.Native.Nat.{ℕ, ◌≤◌, ◌<◌}
 use mathlib.Core.Path.{◌≡◌, refl, ap, subst, ◌∙◌, sym as inv}
 use mathlib.Core.Bool.{true}
 use mathlib.Core.List.{List, [], ◌++◌, map}
-use mathlib.Core.Logic.{◌⊎◌, inl, inr}
+use mathlib.Core.Logic.{inl, inr}
 use native.Mathlib.Omega.{arith}
 use lib.ListN.{length, replicate}
 use Rattle.expressions.specs.Expression.{Value, Exp}
@@ -46,7 +46,7 @@ use Rattle.running.specs.declared.ran.Ran.{Ran as RanCells}
 use Rattle.forward.proofs.RunMeans.{RanMeans, runner_over, run_means}
 use Rattle.resolve.specs.RunAnswer.{RunLeft, answer_of, cells_after}
 use Rattle.run_answers.specs.declared.run.Answer.{Answer as Outcome}
-use Rattle.run_answers.specs.declared.run.Answer.TheVariants.{Value as ValueOf, Over, NotWithin}
+use Rattle.run_answers.specs.declared.run.Answer.TheVariants.{Value as ValueOf, Over}
 use Rattle.reading.specs.Twins.BothCells.{BothAnswer, both_over}
 use Rattle.resolve.specs.Twins.RunCells.{answer_ran, RunOut, ran_left, run_behind, run_texts}
 use Rattle.reading.specs.declared.both.Both.{Both}

@@ -1,24 +1,22 @@
 -- The sample that `sample_line` leaves is that of the line with its number, in the listing of the two texts.
-use Prim.Native.Nat.{ℕ, zero, suc, ◌+◌, ◌-◌, ◌*◌, ◌≤◌, ◌<◌}
-use mathlib.Core.Path.{◌≡◌, refl, ap, ap₂, subst, ◌∙◌, sym as inv}
-use mathlib.Core.Bool.{Bool, true, false}
-use mathlib.Core.List.{List, [], ◌∷◌, ◌++◌, map, append_assoc, append-nil}
+use Prim.Native.Nat.{ℕ, zero, suc, ◌-◌, ◌≤◌, ◌<◌}
+use mathlib.Core.Path.{◌≡◌, refl, ap, subst, ◌∙◌, sym as inv}
+use mathlib.Core.Bool.{true, false}
+use mathlib.Core.List.{List, [], ◌∷◌, ◌++◌, append_assoc}
 use native.Mathlib.Omega.{arith}
-use lib.Dec.{eqb, leb, ltb}
-use lib.ListN.{length, take, drop, get_or, replicate, length-append, length-replicate}
+use lib.ListN.{length, drop, get_or, replicate, length-replicate}
 use lib.Seq.{drop_at}
 use borrow.Author.Tests.{le-ltb, ne_eqb, le-leb}
 use Rattle.expressions.specs.Expression.{nodes, nodes_all}
-use Rattle.expressions.specs.Class.{IOPair, nodes_io, nodes_class}
+use Rattle.expressions.specs.Class.{IOPair, nodes_io}
 use Rattle.language.specs.Source.{SProg, SJob, prog, class}
 use Rattle.language.specs.JobCheck.{lister}
 use Rattle.language.specs.Reading.{accepted, reading, symbol_names}
 use Rattle.semantics.specs.Lists.{All}
 use Rattle.semantics.specs.Tree.{Line}
 use Rattle.semantics.specs.Walk.{lines_of}
-use Rattle.semantics.specs.Answer.{Answer, Listed, list, walked, limits}
+use Rattle.semantics.specs.Answer.{Answer, Listed, walked, limits}
 use Rattle.semantics.proofs.AcceptedTexts.{list_answer}
-use Rattle.listing.specs.Sample.{sample}
 use Rattle.listing.specs.SampleDemand.{SampleCorrect, SampleTextRuns}
 use Rattle.listing.proofs.Samples.{sampled_correct}
 use Rattle.listing.proofs.SampleTexts.{sample_text_runs}
@@ -31,7 +29,7 @@ use Rattle.reading.proofs.BothRead.{drop_zeros}
 use Rattle.heap.proofs.HeapLaws.{nodes_positive}
 use Rattle.meetings.proofs.LineLaws.{class_length}
 use Rattle.lines.specs.LineCells.{line_cells, lines_cells}
-use Rattle.resolve.specs.ListAnswer.{too_short, cells_after, lines_then, unless_short, list_left}
+use Rattle.resolve.specs.ListAnswer.{too_short, cells_after, lines_then, list_left}
 use Rattle.writer.specs.Twins.LineCells.{line_end}
 use Rattle.writer.specs.Twins.SampleText.{filled_line}
 use Rattle.writer.proofs.FilledLaws.{copied_front, sample_of as sampleCellsOf, sample_length, filled_means}

@@ -1,21 +1,21 @@
 -- The walk of a job, from storages that hold the body of `main`, is the walk of semantics/proofs/Backtrack.antt from the call of `main`.
-use Prim.Native.Nat.{ℕ, zero, suc, ◌+◌, ◌-◌, ◌*◌, ◌≤◌, ◌<◌, min}
-use mathlib.Core.Path.{◌≡◌, refl, ap, subst, ◌∙◌, sym as inv}
+use Prim.Native.Nat.{ℕ, zero, suc, ◌+◌, ◌*◌, ◌≤◌, ◌<◌, min}
+use mathlib.Core.Path.{◌≡◌, refl, ap, subst, ◌∙◌}
 use mathlib.Core.Bool.{Bool, true, false, cond}
 use mathlib.Core.List.{List, [], ◌∷◌, ◌++◌}
 use mathlib.Core.Option.{some}
 use native.Mathlib.Omega.{arith}
 use lib.Dec.{eqb, ltb}
-use lib.ListN.{length, take, replicate, length-replicate}
+use lib.ListN.{length, replicate, length-replicate}
 use lib.Seq.{length-take-le}
-use borrow.Author.Tests.{eq-eqb, ne_eqb, lt-ltb, le-ltb, ltb-true, ltb-false}
+use borrow.Author.Tests.{eq-eqb, ne_eqb, le-ltb, ltb-true, ltb-false}
 use Rattle.language.specs.Program.{Prog}
 use Rattle.syntax.specs.declared.numerals.Numerals.{Numerals}
 use Rattle.semantics.specs.Configuration.{nodes_state, Configuration}
-use Rattle.semantics.specs.Trace.{Successors, called, successors}
+use Rattle.semantics.specs.Trace.{called, successors}
 use Rattle.semantics.specs.Tree.{Node, root, after_call}
-use Rattle.semantics.specs.Walk.{state_over, Limits, Stop, stop21, Walked, going, stopped, state_of, lines_of, count_of, at_start, taken, mark_cut}
-use Rattle.semantics.proofs.Backtrack.{PathState, on_path, with_todo, Turn, ahead, exhausted, halted, extend, extend_unless, enter, or_back, turn, walk_back, walk_back_from, walked_of}
+use Rattle.semantics.specs.Walk.{state_over, Limits, Stop, stop21, Walked, state_of, lines_of, count_of, at_start, taken, mark_cut}
+use Rattle.semantics.proofs.Backtrack.{PathState, on_path, Turn, ahead, exhausted, halted, extend, extend_unless, or_back, turn, walk_back, walk_back_from, walked_of}
 use Rattle.semantics.proofs.Soundness.{Small, Sound}
 use Rattle.semantics.proofs.Tracing.{Scoped}
 use Rattle.semantics.proofs.Reaching.{Reaches, here, reaches_call}
@@ -29,9 +29,8 @@ use Rattle.linking.specs.Twins.Linked.{BodiesLinked, no_bodies, more_bodies}
 use Rattle.linking.proofs.AgreeLaws.{term_agrees}
 use Rattle.constants.specs.Twins.Laying.{ConstantsLeft, constants_laid}
 use Rattle.constants.proofs.ConstantLaws.{Constants, NoConstants, Kept, constants_held, constants_kept}
-use Rattle.saving.specs.Twins.Saving.{size_of, SaveLeft, saved_to}
+use Rattle.saving.specs.Twins.Saving.{SaveLeft, saved_to}
 use Rattle.saving.specs.Twins.Records.{Record, record_of, record_cells, Fits, Holding}
-use Rattle.saving.specs.declared.head.Node.{Node as Saved}
 use Rattle.saving.proofs.HoldingLaws.{records_one, holding_none}
 use Rattle.saving.proofs.SavedLaws.{save_fits}
 use Rattle.values.specs.Twins.Sizes.{kept_nodes, sized_as}
@@ -47,16 +46,16 @@ use Rattle.lines.proofs.LineLaws.{LinesHeld}
 use Rattle.positions.specs.Twins.Used.{with_used}
 use Rattle.positions.specs.declared.position.Bounds.{Bounds}
 use Rattle.replay.proofs.RecordLaws.{Entered, Recorded, Rooted, only}
-use Rattle.turns.specs.Twins.Finding.{walked, nothing_found, counted, cut_off}
+use Rattle.turns.specs.Twins.Finding.{walked, nothing_found, counted}
 use Rattle.turns.specs.Twins.States.{state_at}
 use Rattle.walk.specs.Twins.Walking.{WalkedLeft, walked_from}
-use Rattle.walk.specs.Twins.Jobs.{JobLeft, job_left, bounds_of, first_node, of_walk, walk_first, walk_begun, on_begun}
+use Rattle.walk.specs.Twins.Jobs.{JobLeft, bounds_of, first_node, of_walk, walk_first, walk_begun, on_begun}
 use Rattle.turns.specs.declared.found.Found.{Found}
 use Rattle.turns.specs.declared.found.Ending.{Ending}
-use Rattle.turns.specs.declared.found.Ending.TheVariants.{Done, Over, Spent}
+use Rattle.turns.specs.declared.found.Ending.TheVariants.{Done, Spent}
 use Rattle.turns.specs.declared.found.Walked.{Walked as Came}
 use Rattle.turns.specs.declared.state.State.{State}
-use Rattle.walk.proofs.TurnLaws.{ending_of, SameFound, Walking}
+use Rattle.walk.proofs.TurnLaws.{ending_of, Walking}
 use Rattle.walk.proofs.WalkLaws.{end_of, Comes, walk_goes}
 
 -- What a walk over the storages came to and left is what the walk w found.

@@ -1,5 +1,5 @@
 -- The value of a name at an end, worked out in the environment before it, over cells of any content.
-use Rattle.std.specs.Prelude.{ℕ, zero, suc, ◌+◌, ◌-◌, cond, List, eqb, ltb}
+use Rattle.std.specs.Prelude.{ℕ, zero, suc, ◌+◌, cond, List, eqb, ltb}
 use Rattle.heap.specs.declared.configuration.Configuration.{Configuration}
 use Rattle.linking.specs.Twins.Code.{link_at}
 use Rattle.values.specs.Twins.Names.{names_from, names_in}

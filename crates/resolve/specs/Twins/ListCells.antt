@@ -6,7 +6,6 @@ use Rattle.syntax.specs.declared.numerals.Numerals.{Numerals}
 use Rattle.linking.specs.Twins.Linking.{program_linked, program_end}
 use Rattle.initial.specs.Twins.Beginning.{main_body}
 use Rattle.walk.specs.Twins.Jobs.{JobLeft, walk_job}
-use Rattle.turns.specs.declared.found.Found.{Found}
 use Rattle.turns.specs.declared.found.Ending.{Ending}
 use Rattle.turns.specs.declared.found.Ending.TheVariants.{Done, Over, Full, Spent}
 use Rattle.turns.specs.declared.found.Walked.{Walked}

@@ -1,5 +1,5 @@
 -- The sample of one line, from cells of any content.
-use Rattle.std.specs.Prelude.{ℕ, zero, suc, ◌-◌, Bool, true, false, cond, List, eqb, leb, ltb, length, drop, get_or, replicate}
+use Rattle.std.specs.Prelude.{ℕ, zero, suc, ◌-◌, Bool, false, cond, List, eqb, leb, ltb, length, drop, get_or, replicate}
 use Rattle.lent.specs.Storage.{zeros}
 use Rattle.sets.specs.Twins.Copying.{copied}
 use Rattle.writer.specs.Twins.LineCells.{line_end}

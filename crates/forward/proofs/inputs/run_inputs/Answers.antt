@@ -1,5 +1,4 @@
 use Rattle.forward.specs.Twins.Running.{run_inputs}
-use borrow.Author.Rules.{rules}
 use Rattle.forward.proofs.inputs.run_inputs.Goals as goal
 
 pub returns : goal.returns

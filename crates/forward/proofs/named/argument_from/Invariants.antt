@@ -1,7 +1,5 @@
 use mathlib.Core.Path.{◌≡◌}
 use Rattle.forward.specs.Twins.Naming.{argument_from}
-use Rattle.forward.proofs.ForwardTurns.{argument_turn, argument_end}
-use borrow.Author.Rules.{rules}
 use Rattle.forward.proofs.named.argument_from.Given as goal
 
 abbrev pub invariant-loop-left : goal.invariant-loop-left

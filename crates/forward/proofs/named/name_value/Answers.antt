@@ -1,5 +1,4 @@
 use Rattle.forward.specs.Twins.Naming.{named_at}
-use borrow.Author.Rules.{rules}
 use Rattle.forward.proofs.named.name_value.Goals as goal
 
 pub returns-in-End : goal.returns-in-End

@@ -1,6 +1,5 @@
 use borrow.Author.Tests.{lt-ltb, le-ltb, eq-eqb, ne_eqb}
 use Rattle.forward.specs.Twins.Naming.{tested_named}
-use borrow.Author.Rules.{rules}
 use Rattle.forward.proofs.named.tested_value.Goals as goal
 
 pub returns-then-place-n : goal.returns-then-place-n

@@ -1,7 +1,4 @@
-use mathlib.Core.Path.{◌≡◌, refl}
-use lib.ListN.{length}
-use Prim.Native.Nat.{◌-◌}
-use Rattle.forward.specs.Twins.Output.{tokens_put, output_put}
+use mathlib.Core.Path.{refl}
 use Rattle.forward.proofs.ForwardTurns.{tokens_turn, tokens_end}
 use borrow.Author.Rules.{rules}
 use Rattle.forward.proofs.output.push_output.Goals as goal

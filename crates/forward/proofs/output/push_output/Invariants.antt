@@ -1,9 +1,7 @@
-use mathlib.Core.Path.{◌≡◌, refl}
+use mathlib.Core.Path.{◌≡◌}
 use lib.ListN.{length}
 use Prim.Native.Nat.{◌-◌}
 use Rattle.forward.specs.Twins.Output.{tokens_put, output_put}
-use Rattle.forward.proofs.ForwardTurns.{tokens_turn, tokens_end}
-use borrow.Author.Rules.{rules}
 use Rattle.forward.proofs.output.push_output.Given as goal
 
 abbrev pub invariant-loop-j : goal.invariant-loop-j

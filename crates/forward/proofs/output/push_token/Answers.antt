@@ -1,6 +1,5 @@
 use borrow.Author.Tests.{eq-eqb, ne_eqb}
 use Rattle.forward.specs.Twins.Output.{token_put}
-use borrow.Author.Rules.{rules}
 use Rattle.forward.proofs.output.push_token.Goals as goal
 
 pub returns-then-mark-eq-CELL : goal.returns-then-mark-eq-CELL

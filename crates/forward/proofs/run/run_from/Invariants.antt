@@ -1,13 +1,7 @@
-use mathlib.Core.Path.{◌≡◌, ◌∙◌, sym as inv}
+use mathlib.Core.Path.{◌≡◌}
 use lib.ListN.{length}
-use Prim.Native.Nat.{ℕ, ◌-◌, ◌≤◌, ◌<◌}
-use mathlib.Core.Bool.{Bool, true, false}
-use lib.Dec.{ltb}
+use Prim.Native.Nat.{◌-◌}
 use Rattle.forward.specs.Twins.Running.{ran_from}
-use Rattle.forward.proofs.ForwardTurns.{run_turn, run_end}
-use borrow.Author.Tests.{ltb-true, ltb-false}
-use native.Mathlib.Omega.{arith}
-use borrow.Author.Rules.{rules}
 use Rattle.forward.proofs.run.run_from.Given as goal
 
 abbrev pub invariant-loop-d : goal.invariant-loop-d

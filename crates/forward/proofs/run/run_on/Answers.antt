@@ -1,6 +1,5 @@
 use borrow.Author.Tests.{eq-eqb, ne_eqb}
 use Rattle.forward.specs.Twins.Running.{ran_on}
-use borrow.Author.Rules.{rules}
 use Rattle.forward.proofs.run.run_on.Goals as goal
 
 pub returns-then-is_over : goal.returns-then-is_over

@@ -1,5 +1,4 @@
 use Rattle.forward.specs.Twins.Turning.{advanced}
-use borrow.Author.Rules.{rules}
 use Rattle.forward.proofs.turn.advance.Goals as goal
 
 pub returns-then-is_over : goal.returns-then-is_over

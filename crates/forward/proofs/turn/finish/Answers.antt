@@ -1,5 +1,4 @@
 use Rattle.forward.specs.Twins.Turning.{finished}
-use borrow.Author.Rules.{rules}
 use Rattle.forward.proofs.turn.finish.Goals as goal
 
 pub returns : goal.returns

@@ -1,6 +1,5 @@
 use borrow.Author.Tests.{lt-ltb, le-ltb}
 use Rattle.forward.specs.Twins.Turning.{roomed}
-use borrow.Author.Rules.{rules}
 use Rattle.forward.proofs.turn.make_room.Goals as goal
 
 pub returns-then-c-gt40959 : goal.returns-then-c-gt40959

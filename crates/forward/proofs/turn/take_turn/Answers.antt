@@ -1,5 +1,4 @@
 use Rattle.forward.specs.Twins.Turning.{turned}
-use borrow.Author.Rules.{rules}
 use Rattle.forward.proofs.turn.take_turn.Goals as goal
 
 pub returns-then-ends_at : goal.returns-then-ends_at

@@ -1,6 +1,5 @@
 use mathlib.Core.Path.{◌∙◌, sym as inv}
 use Rattle.resolve.proofs.ListDemand.{promised, short_left, list_said}
-use borrow.Author.Rules.{rules}
 use Rattle.resolve.proofs.list.list.Goals as goal
 
 pub returns-then-short_for_lines : goal.returns-then-short_for_lines

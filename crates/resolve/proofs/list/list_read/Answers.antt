@@ -1,7 +1,6 @@
 use Rattle.resolve.specs.Twins.ListCells.{listed_read}
 use Rattle.resolve.proofs.ListMeaning.{walked_behind}
 use mathlib.Core.Path.{refl}
-use borrow.Author.Rules.{rules}
 use Rattle.resolve.proofs.list.list_read.Goals as goal
 
 pub returns-in-Program : goal.returns-in-Program

@@ -1,5 +1,4 @@
 use Rattle.resolve.proofs.ListMeaning.{list_left}
-use borrow.Author.Rules.{rules}
 use Rattle.resolve.proofs.list.list_texts.Goals as goal
 
 pub returns : goal.returns

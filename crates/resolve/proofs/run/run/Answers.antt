@@ -1,6 +1,5 @@
 use mathlib.Core.Path.{◌∙◌, sym as inv}
 use Rattle.resolve.proofs.RunDemand.{promised, short_left, run_said}
-use borrow.Author.Rules.{rules}
 use Rattle.resolve.proofs.run.run.Goals as goal
 
 pub returns-then-short_for_value : goal.returns-then-short_for_value

@@ -1,6 +1,5 @@
 use Rattle.resolve.proofs.RunMeaning.{run_left_lem, ran_behind}
 use mathlib.Core.Path.{refl}
-use borrow.Author.Rules.{rules}
 use Rattle.resolve.proofs.run.run_texts.Goals as goal
 
 pub returns-in-Program : goal.returns-in-Program

@@ -1,11 +1,10 @@
 use Prim.Native.Nat.{ℕ, ◌+◌, ◌-◌, min}
-use mathlib.Core.Path.{◌≡◌, refl, ap, ◌∙◌, sym as inv}
+use mathlib.Core.Path.{refl, ap, ◌∙◌, sym as inv}
 use native.Mathlib.Omega.{arith}
 use lib.ListN.{length, drop}
 use Rattle.writer.specs.Twins.LineCells.{line_end}
 use Rattle.sampling.specs.Twins.Lines.{behind_lines}
 use Rattle.sampling.proofs.LineTurns.{behind_end_lem, behind_turn, behind_none}
-use borrow.Author.Rules.{rules}
 use Rattle.sampling.proofs.line.line_place.Goals as goal
 
 pub loop-left-init : goal.loop-left-init

@@ -1,6 +1,5 @@
 use mathlib.Core.Path.{◌∙◌}
 use Rattle.sampling.proofs.LineTurns.{sample_cells_lem}
-use borrow.Author.Rules.{rules}
 use Rattle.sampling.proofs.line.put_sample.Goals as goal
 
 pub returns : goal.returns

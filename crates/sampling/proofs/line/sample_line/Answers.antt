@@ -1,7 +1,6 @@
 use mathlib.Core.Path.{◌∙◌}
 use Rattle.sampling.proofs.LineTurns.{left_short, left_none, left_some}
 use Rattle.sampling.proofs.SampleMeaning.{each_line}
-use borrow.Author.Rules.{rules}
 use Rattle.sampling.proofs.line.sample_line.Goals as goal
 
 pub returns-then-sample-lt-SAMPLE : goal.returns-then-sample-lt-SAMPLE

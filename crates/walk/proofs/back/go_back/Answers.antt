@@ -2,7 +2,6 @@ use mathlib.Core.Path.{ap, ◌∙◌}
 use Rattle.positions.specs.declared.position.Position.{Position}
 use Rattle.turns.specs.Twins.States.{state_at}
 use Rattle.walk.proofs.BranchTurns.{branch_spends, branch_moves, back_ends, back_goes}
-use borrow.Author.Rules.{rules}
 use Rattle.walk.proofs.back.go_back.Goals as goal
 
 pub returns-then-d-eq0 : goal.returns-then-d-eq0

@@ -1,5 +1,4 @@
 use Rattle.walk.specs.Twins.Backing.{turned_back}
-use borrow.Author.Rules.{rules}
 use Rattle.walk.proofs.back.turn_back.Goals as goal
 
 pub shape_of-answer-in-Back : goal.shape_of-answer-in-Back

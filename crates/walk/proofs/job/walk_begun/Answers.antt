@@ -3,7 +3,6 @@ use borrow.Author.Tests.{eq-eqb, ne_eqb}
 use Rattle.turns.specs.Twins.Finding.{walked, cut_off}
 use Rattle.walk.specs.Twins.Jobs.{walk_begun}
 use Rattle.turns.specs.declared.found.Ending.TheVariants.{Done, Over, Spent}
-use borrow.Author.Rules.{rules}
 use Rattle.walk.proofs.job.walk_begun.Goals as goal
 
 pub returns-then-is_over : goal.returns-then-is_over

@@ -1,5 +1,4 @@
 use Rattle.walk.proofs.JobTurns.{first_walks}
-use borrow.Author.Rules.{rules}
 use Rattle.walk.proofs.job.walk_first.Goals as goal
 
 pub returns : goal.returns

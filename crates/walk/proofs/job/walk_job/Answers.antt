@@ -1,5 +1,4 @@
 use Rattle.walk.proofs.JobTurns.{job_on, job_none, job_over}
-use borrow.Author.Rules.{rules}
 use Rattle.walk.proofs.job.walk_job.Goals as goal
 
 pub returns-in-On : goal.returns-in-On

@@ -1,5 +1,4 @@
 use Rattle.walk.specs.Twins.Leaves.{leaf_met}
-use borrow.Author.Rules.{rules}
 use Rattle.walk.proofs.leaves.meet_leaf.Goals as goal
 
 pub shape_of-answer-then-is_result : goal.shape_of-answer-then-is_result

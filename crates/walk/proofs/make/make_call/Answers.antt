@@ -1,5 +1,4 @@
 use Rattle.walk.specs.Twins.Making.{made_call}
-use borrow.Author.Rules.{rules}
 use Rattle.walk.proofs.make.make_call.Goals as goal
 
 pub returns-then-is_spent : goal.returns-then-is_spent

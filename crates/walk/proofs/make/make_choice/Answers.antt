@@ -1,5 +1,4 @@
 use Rattle.walk.proofs.BranchTurns.{choice_spends, choice_moves}
-use borrow.Author.Rules.{rules}
 use Rattle.walk.proofs.make.make_choice.Goals as goal
 
 pub returns-then-is_spent : goal.returns-then-is_spent

@@ -1,7 +1,6 @@
 use mathlib.Core.Path.{ap}
 use Rattle.trails.specs.Twins.TrailCells.{PathLeft}
 use Rattle.walk.specs.Twins.Making.{choice_recorded}
-use borrow.Author.Rules.{rules}
 use Rattle.walk.proofs.make.record_choice.Goals as goal
 
 pub returns : goal.returns

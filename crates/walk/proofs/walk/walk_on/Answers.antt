@@ -1,8 +1,5 @@
-use mathlib.Core.Path.{◌≡◌, refl, ◌∙◌}
-use lib.ListN.{length}
-use Rattle.walk.specs.Twins.Walking.{walked_from}
+use mathlib.Core.Path.{refl, ◌∙◌}
 use Rattle.walk.proofs.WalkTurns.{walk_again, walk_end}
-use borrow.Author.Rules.{rules}
 use Rattle.walk.proofs.walk.walk_on.Goals as goal
 
 pub loop-left-init : goal.loop-left-init

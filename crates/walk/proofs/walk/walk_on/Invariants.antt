@@ -1,8 +1,6 @@
-use mathlib.Core.Path.{◌≡◌, refl, ◌∙◌}
+use mathlib.Core.Path.{◌≡◌}
 use lib.ListN.{length}
 use Rattle.walk.specs.Twins.Walking.{walked_from}
-use Rattle.walk.proofs.WalkTurns.{walk_again, walk_end}
-use borrow.Author.Rules.{rules}
 use Rattle.walk.proofs.walk.walk_on.Given as goal
 
 abbrev pub invariant-loop-left : goal.invariant-loop-left

@@ -1,5 +1,4 @@
 use Rattle.walk.specs.Twins.Walking.{walk_turn}
-use borrow.Author.Rules.{rules}
 use Rattle.walk.proofs.walk.walk_turn.Goals as goal
 
 pub returns-in-Call : goal.returns-in-Call
