@@ -6,7 +6,6 @@ use mathlib.Core.List.{List, [], ◌++◌, append_assoc}
 use native.Mathlib.Omega.{arith}
 use lib.ListN.{length, take, drop, replicate, length-append}
 use lib.Seq.{sets, length-sets, take_at}
-use Rattle.expressions.specs.Expression.{Value}
 use Rattle.expressions.specs.Class.{IOClass}
 use Rattle.sets.specs.Cells.{cells, cells_all, restriction_cells}
 use Rattle.sets.proofs.CellLaws.{cells_nodes, cells_all_nodes, restriction_cells_nodes}
@@ -201,7 +200,7 @@ module _ (program job : List ℕ) where
     unfolding runs.run_left
     run_printed long =
         rw long (ran_is (runs.cells_after (run program job) d) (runs.answer_of (run program job)) ∙ texts_by_reading true program job (replicate 8194 0) wide
-        (λ w. ran_by w (runs.cells_after (run program job) d) (runs.answer_of (run program job))) (λ r. run_text program job) (λ t r e marks nums ends heads jmarks jnums symbols. run_refused t r e _) run_accepted)
+        (λ w. ran_by w (runs.cells_after (run program job) d) (runs.answer_of (run program job))) (λ r. run_text program job) (λ t r e marks nums ends heads jmarks jnums symbols. run_refused t r e (leaving (refused_texts t r) marks nums ends heads jmarks jnums symbols (zeros (replicate 8194 0)))) run_accepted)
 
   -- what the prints promise: a part of the text of any cells, which is that of the two texts where the cells are those that the entry left
   module _ (n from : ℕ) (c : List ℕ) {r : ℕ} {out : List ℕ} where

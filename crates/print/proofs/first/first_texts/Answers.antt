@@ -2,7 +2,6 @@ use mathlib.Core.Bool.{false}
 use Rattle.reading.specs.Twins.BothCells.{both_over}
 use Rattle.resolve.proofs.ListMeaning.{list_left}
 use Rattle.print.proofs.ListTurns.{said_read}
-use borrow.Author.Rules.{rules}
 use Rattle.print.proofs.first.first_texts.Goals as goal
 
 pub returns : goal.returns

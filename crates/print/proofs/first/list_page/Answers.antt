@@ -1,7 +1,6 @@
 use mathlib.Core.Path.{◌∙◌, sym as inv}
 use Rattle.resolve.proofs.ListDemand.{short_left}
 use Rattle.print.proofs.FirstLaws.{short_promised, texts_promised}
-use borrow.Author.Rules.{rules}
 use Rattle.print.proofs.first.list_page.Goals as goal
 
 pub returns-then-short_for_lines : goal.returns-then-short_for_lines

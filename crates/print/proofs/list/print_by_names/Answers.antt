@@ -6,7 +6,6 @@ use Rattle.window.specs.Twins.TreeText.{symbol_text}
 use Rattle.writer.specs.Twins.LineText.{lines_text}
 use Rattle.print.specs.Twins.ListingText.{listing_text}
 use Rattle.window.proofs.SinkLaws.{behind, printed}
-use borrow.Author.Rules.{rules}
 use Rattle.print.proofs.list.print_by_names.Goals as goal
 
 pub returns : goal.returns

@@ -1,5 +1,4 @@
 use Rattle.print.proofs.Printed.{list_promised}
-use borrow.Author.Rules.{rules}
 use Rattle.print.proofs.list.print_list.Goals as goal
 
 pub returns-in-Listing : goal.returns-in-Listing

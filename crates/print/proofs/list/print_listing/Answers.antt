@@ -4,7 +4,6 @@ use mathlib.Core.List.{List}
 use lib.ListN.{take}
 use Rattle.print.specs.Twins.ListedText.{terms_left, table_listing}
 use Rattle.print.proofs.ListTurns.{same_text, names_made, names_kept}
-use borrow.Author.Rules.{rules}
 use Rattle.print.proofs.list.print_listing.Goals as goal
 
 pub returns-then-samples : goal.returns-then-samples

@@ -1,5 +1,4 @@
 use Rattle.print.proofs.ListTurns.{same_text, named_read}
-use borrow.Author.Rules.{rules}
 use Rattle.print.proofs.list.print_named.Goals as goal
 
 pub returns : goal.returns

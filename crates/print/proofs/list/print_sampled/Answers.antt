@@ -1,5 +1,4 @@
 use Rattle.print.proofs.Printed.{sampled_promised}
-use borrow.Author.Rules.{rules}
 use Rattle.print.proofs.list.print_sampled.Goals as goal
 
 pub returns-in-Listing : goal.returns-in-Listing

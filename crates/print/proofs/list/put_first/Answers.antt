@@ -1,6 +1,5 @@
 use Rattle.window.proofs.SinkLaws.{behind}
 use Rattle.print.specs.Twins.ListingText.{first_text}
-use borrow.Author.Rules.{rules}
 use Rattle.print.proofs.list.put_first.Goals as goal
 
 pub returns : goal.returns

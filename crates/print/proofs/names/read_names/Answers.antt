@@ -1,6 +1,5 @@
 use Rattle.print.specs.Twins.Names.{found_in, text_names}
 use mathlib.Core.Path.{ap, ◌∙◌}
-use borrow.Author.Rules.{rules}
 use Rattle.print.proofs.names.read_names.Goals as goal
 
 pub returns : goal.returns

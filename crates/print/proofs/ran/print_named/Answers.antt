@@ -1,5 +1,4 @@
 use Rattle.print.specs.Twins.RanText.{named_text}
-use borrow.Author.Rules.{rules}
 use Rattle.print.proofs.ran.print_named.Goals as goal
 
 pub returns : goal.returns

@@ -1,5 +1,4 @@
 use Rattle.print.proofs.Printed.{run_promised}
-use borrow.Author.Rules.{rules}
 use Rattle.print.proofs.ran.print_run.Goals as goal
 
 pub returns-in-Value : goal.returns-in-Value
