@@ -1,5 +1,7 @@
 // Files and streams that are read.
+ghost use Rattle.std.specs.Prelude.{◌<◌, length, take, IfOk};
 ghost use Rattle.std.specs.Io.{ReadsAtMost};
+ghost use Rattle.std.specs.Io.KnownBytes.{Consumes, IsAtEnd};
 
 use std::io::{ErrorKind, Read};
 use std::rt::Files;
@@ -7,15 +9,17 @@ use std::{fs, io};
 
 // The bytes up to the reader's end, or as many as there is room for: how many they are. They stand at the front of `buf`.
 pub fn read_full<R: Read>(reader: &mut R, buf: &mut [u8]) -> io::Result<usize>
-    ensures { ReadsAtMost result buf.new }
+    ensures bound { ReadsAtMost result buf.new }
+    ensures bytes { IfOk result (λ n. Consumes (R.remaining reader.old) (R.remaining reader.new) (take n buf.new)) }
+    ensures end { IfOk result (λ n. n < length buf.old → IsAtEnd (R.remaining reader.new)) }
 {
     let mut done = 0;
     for _ in 0..u64::MAX {
-        if done == buf.len() {
-            break;
+        if buf.len() <= done {
+            return Ok(done);
         }
         match reader.read(&mut buf[done..]) {
-            Ok(0) => break,
+            Ok(0) => return Ok(done),
             Ok(n) => done += n,
             Err(error) => {
                 if error.kind() != ErrorKind::Interrupted {
@@ -24,7 +28,7 @@ pub fn read_full<R: Read>(reader: &mut R, buf: &mut [u8]) -> io::Result<usize>
             }
         }
     }
-    Ok(done)
+    Err(io::Error::from(ErrorKind::Interrupted))
 }
 
 // Opens the file for reading. std names a file by text alone, so that a name of other bytes names none.
