@@ -66,7 +66,7 @@ some_nodes : {h f : List ℕ} {used i : ℕ} {ts : List Exp} → Held h used f i
 unfolding nodes_from
 some_nodes x zero l = omega arith
 some_nodes frame.Held.none (suc k) l = absurd (omega arith)
-some_nodes (frame.Held.more {t = t} y kn r) (suc k) l = omega (arith, holds_nodes y, nodes_positive t, some_nodes r k (omega arith))
+some_nodes {i = i} (frame.Held.more {t = t} y kn r) (suc k) l = omega (arith, holds_nodes y, nodes_positive t, some_nodes {i = i + 1} r k (omega arith))
 
 module _ (p : Prog) (bodies : ℕ → ℕ) (code : List ℕ) (ok : Accepted p bodies code) (empty : NoConstants code) (is : List Value) {h f q : List ℕ} {c : InCells} (t : Term) (σ : ValueEnv) (x : Stands p bodies code h f q c (at p bodies code ok empty is t σ)) where
   tree_nodes : nodes_all (trees (at p bodies code ok empty is t σ).cr x.holds.values) ≡ suc (nodes_next is (go t σ))

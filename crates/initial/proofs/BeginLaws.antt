@@ -45,7 +45,7 @@ in_main p K = record { cr = K.cr; term = (find p 0).body; fresh = K.fresh }
 
 -- its names are in scope, as each transition behind it asks
 pub main_scoped : (p : Prog) (ds : List Exp) → admitted p ≡ true → fits (find p 0).params ds ≡ true → WellScoped p (find p 0).body (env_of (find p 0).params ds)
-main_scoped p ds formed fit = scoped_body formed (defines_find p 0 _ (some_main p formed)) (bind_params_bound _ _ (find p 0).params ds fit)
+main_scoped p ds formed fit = scoped_body formed (defines_find p 0 _ (some_main p formed)) (bind_params_bound _ (λ x. x) (find p 0).params ds fit)
 
 pub start_main : (p : Prog) (P : IOClass) (K : Configuration) → admitted p ≡ true → fits (find p 0).params P.con.ins ≡ true → start p P ≡ some K →
     (successors p K ≡ called (in_main p K)) × WellScoped p (in_main p K).term (in_main p K).cr.con.env

@@ -1,0 +1,7 @@
+use Rattle.lines.specs.Twins.Lines.{nodes_in_line}
+use borrow.Author.Rules.{rules}
+use Rattle.lines.proofs.line.line_nodes.Goals as goal
+
+pub returns : goal.returns
+unfolding nodes_in_line
+returns c = rw (← c.nodes.ensures, ← c.least.ensures, ← c.least-2.ensures)
