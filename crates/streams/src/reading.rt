@@ -38,3 +38,63 @@ pub fn open_read<R: Files>(rt: &R, path: &[u8]) -> io::Result<R::File> {
         Err(_) => Err(io::Error::new(ErrorKind::InvalidFilename, "the file's name is not UTF-8")),
     }
 }
+
+#[cfg(test)]
+mod tests {
+    use super::*;
+
+    // Gives the byte 7 at each second call, is interrupted at the others, ends after `ends` calls and fails at call `fails`.
+    #[derive(Drop)]
+    struct Slow {
+        calls: u8,
+        ends: u8,
+        fails: u8,
+    }
+
+    impl Read for Slow {
+        fn read(&mut self, buf: &mut [u8]) -> io::Result<usize> {
+            self.calls = self.calls.saturating_add(1);
+            if self.calls == self.fails {
+                return Err(io::Error::from(ErrorKind::TimedOut));
+            }
+            if self.calls % 2 == 1 {
+                return Err(io::Error::from(ErrorKind::Interrupted));
+            }
+            if self.ends <= self.calls {
+                return Ok(0);
+            }
+            match buf.first_mut() {
+                None => Ok(0),
+                Some(first) => {
+                    *first = 7;
+                    Ok(1)
+                }
+            }
+        }
+    }
+
+    #[test]
+    fn reads_on_and_says_what_failed(rt: HostRuntime) {
+        for (ends, fails, want) in [
+            (1, 0, Some(0)),
+            (9, 0, Some(4)),
+            (99, 0, Some(6)),
+            (99, 7, None),
+        ] {
+            let mut buf = [0u8; 6];
+            let mut reader = Slow {
+                calls: 0,
+                ends,
+                fails,
+            };
+            let got = read_full(&mut reader, &mut buf);
+            match want {
+                None => assert_eq!(rt; got.err().map(|e| e.kind()), Some(ErrorKind::TimedOut)),
+                Some(n) => {
+                    assert_eq!(rt; got.ok(), Some(n));
+                    assert_eq!(rt; buf.iter().filter(|b| **b == 7).count(), n);
+                }
+            }
+        }
+    }
+}
