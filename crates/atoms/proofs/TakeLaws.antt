@@ -3,12 +3,12 @@ use Prim.Native.Nat.{ℕ, ◌+◌, ◌%◌, ◌≤◌, ◌<◌}
 use mathlib.Core.Path.{◌≡◌, refl, ap, ap₂, subst, ◌∙◌, sym as inv}
 use mathlib.Core.Bool.{Bool, true, false, cond}
 use mathlib.Core.List.{List, [], ◌∷◌}
-use mathlib.Core.Option.{Option, none, some, some-injective}
+use mathlib.Core.Option.{Option, none, some}
 use mathlib.Core.Logic.{inl, inr}
 use native.Mathlib.Omega.{arith}
 use lib.Dec.{eqb}
 use lib.ListN.{length}
-use Rattle.expressions.specs.Expression.{AtomicExp, sym, avar, Exp, nodes}
+use Rattle.expressions.specs.Expression.{AtomicExp, sym, avar, Exp}
 use Rattle.expressions.specs.Substitution.{apply, apply_atomic, id_subst, subst_a}
 use Rattle.expressions.specs.Restriction.{Restriction, same_atomic, simplify, add, subst_restriction}
 use Rattle.expressions.specs.Contraction.{CRPair, identity, bind_a, apply_pair, contract, mk_bind}
@@ -31,7 +31,7 @@ use Rattle.heap.specs.declared.configuration.Moved.TheVariants.{On, Over}
 use Rattle.runs.proofs.RunLaws.{Below, below_self}
 use Rattle.heap.proofs.HeapLaws.{filling_a}
 use Rattle.linking.specs.Twins.Linked.{TermLinked}
-use Rattle.values.proofs.StateLaws.{HoldsPair, Stands, Arrives, Leads, none_leads, leads_to}
+use Rattle.values.proofs.StateLaws.{HoldsPair, Stands, Leads, none_leads, leads_to}
 use Rattle.values.proofs.ContractionLaws.{applied_pair, restricted_pair, used_to, pair_same, pair_restricted, few_entries, AppliedOutcome, bound_cell_lem}
 use Rattle.atoms.specs.Twins.Taking.{placed_at, taken_by, equal_taken, unequal_taken}
 use Rattle.atoms.proofs.BindingLaws.{against}

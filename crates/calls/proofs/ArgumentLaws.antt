@@ -1,20 +1,17 @@
 -- What `arguments` means: an entry for the value of each argument, and nothing that was there changed; or there is no room, or more than 4,096 nodes.
-use Prim.Native.Nat.{ℕ, zero, suc, ◌+◌, ◌-◌, ◌*◌, ◌≤◌, ◌<◌, min}
-use mathlib.Core.Path.{◌≡◌, refl, ap, ap₂, ◌∙◌, sym as inv}
-use mathlib.Core.Bool.{Bool, true, false, cond}
-use mathlib.Core.List.{List, [], ◌∷◌}
+use Prim.Native.Nat.{ℕ, suc, ◌+◌, ◌-◌, ◌*◌, ◌≤◌, ◌<◌, min}
+use mathlib.Core.Path.{◌≡◌, refl, ap₂, ◌∙◌}
+use mathlib.Core.List.{List, ◌∷◌}
 use mathlib.Core.Logic.{◌⊎◌, inl, inr}
 use native.Mathlib.Omega.{arith}
 use native.Mathlib.Decide.{dec_le}
-use lib.Dec.{ltb, leb}
-use lib.ListN.{length, get_or}
+use lib.ListN.{length}
 use borrow.Author.Tests.{lt-ltb, le-ltb, lt-leb}
-use Rattle.expressions.specs.Expression.{Exp, atm, evar, pair, nodes, nodes_all}
+use Rattle.expressions.specs.Expression.{Exp, nodes, nodes_all}
 use Rattle.expressions.specs.Substitution.{apply, apply_all}
 use Rattle.language.specs.Program.{Param}
 use Rattle.semantics.specs.Configuration.{subst_of_env}
-use Rattle.heap.specs.Twins.Entries.{entry, entry_known, entry_from, entry_to, pushed, PushAnswer, push_answer}
-use Rattle.heap.specs.declared.entry.Pushed.TheVariants.{Done as PushedDone}
+use Rattle.heap.specs.Twins.Entries.{entry, entry_known, entry_from, entry_to, pushed}
 use Rattle.runs.proofs.RunLaws.{Below, below_self}
 use Rattle.heap.proofs.HeapLaws.{Holds, holds_below, nodes_positive}
 use Rattle.heap.proofs.KnownLaws.{KnownOf}
@@ -23,13 +20,13 @@ use Rattle.heap.proofs.FrameLaws as frame
 use Rattle.heap.proofs.NodeLaws.{holds_nodes}
 use Rattle.constants.proofs.ConstantLaws.{Constants, constants_below}
 use Rattle.linking.specs.Twins.Code.{link_at}
-use Rattle.linking.specs.Twins.Linked.{ExpLinked, sym_linked, e_linked, a_linked, cons_linked, ExpsLinked, none_linked, more_linked}
+use Rattle.linking.specs.Twins.Linked.{ExpsLinked, none_linked, more_linked}
 use Rattle.linking.specs.Twins.Places.{env_of}
 use Rattle.values.specs.Twins.Values.{ValueLeft, value_at}
-use Rattle.calls.specs.Twins.Arguments.{counted, taken_as, entered, ArgueLeft, argue_left, argument_at, arguments_at}
+use Rattle.calls.specs.Twins.Arguments.{ArgueLeft, argue_left, argument_at, arguments_at}
 use Rattle.values.specs.declared.value.Valued.TheVariants.{At, Over as ValuedOver}
 use Rattle.calls.specs.declared.arguments.Argued.TheVariants.{Done, Over}
-use Rattle.values.proofs.ValueLaws.{Typed, past_linked, Known, AllKnown, ValuedAs}
+use Rattle.values.proofs.ValueLaws.{Typed, past_linked, AllKnown, ValuedAs}
 use Rattle.values.proofs.RoomLaws.{value_outcome}
 use Rattle.values.proofs.RoomLaws as values
 

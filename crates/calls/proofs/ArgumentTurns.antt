@@ -1,10 +1,10 @@
 -- One turn of the loop over arguments.
-use Prim.Native.Nat.{ℕ, zero, suc, ◌+◌, ◌-◌, ◌≤◌, ◌<◌}
+use Prim.Native.Nat.{ℕ, zero, suc, ◌-◌, ◌≤◌, ◌<◌}
 use mathlib.Core.Path.{◌≡◌}
 use mathlib.Core.List.{List}
 use native.Mathlib.Omega.{arith}
 use Rattle.linking.specs.Twins.Code.{link_at}
-use Rattle.calls.specs.Twins.Arguments.{ArgueLeft, argue_left, onward_argue, argument_at, arguments_at}
+use Rattle.calls.specs.Twins.Arguments.{argue_left, onward_argue, argument_at, arguments_at}
 use Rattle.calls.specs.declared.arguments.Argued.TheVariants.{Done}
 
 none_left : (n : ℕ) → n ≤ 0 → n ≡ 0

@@ -1,7 +1,7 @@
 -- What `call` means: the entries behind inputs and output hold the values of the arguments, the place is that of the body, and nothing else changed; or there
 -- is no room, or more than 4,096 nodes.
 use Prim.Native.Nat.{ℕ, suc, ◌+◌, ◌-◌, ◌*◌, ◌≤◌, ◌<◌, min}
-use mathlib.Core.Path.{◌≡◌, refl, ap, ◌∙◌, sym as inv}
+use mathlib.Core.Path.{◌≡◌, refl, ap, ◌∙◌}
 use mathlib.Core.List.{List, [], ◌∷◌}
 use mathlib.Core.Logic.{◌⊎◌, inl, inr}
 use native.Mathlib.Omega.{arith}
@@ -13,8 +13,8 @@ use Rattle.expressions.specs.Substitution.{Substitution, apply_all}
 use Rattle.language.specs.Program.{Param}
 use Rattle.semantics.specs.Configuration.{subst_of_env}
 use Rattle.runs.specs.Twins.Runs.{cells_at}
-use Rattle.heap.specs.Twins.Entries.{nodes_from, moved_down, moved_entries}
-use Rattle.heap.specs.Twins.Moving.{Move, moved}
+use Rattle.heap.specs.Twins.Entries.{moved_down, moved_entries}
+use Rattle.heap.specs.Twins.Moving.{Move}
 use Rattle.heap.specs.declared.configuration.Configuration.{Configuration}
 use Rattle.heap.specs.declared.configuration.Moved.TheVariants.{On, Over as MovedOver}
 use Rattle.runs.proofs.RunLaws.{Below, below_self, below_sets}
@@ -27,7 +27,6 @@ use Rattle.linking.specs.Twins.Places.{env_of}
 use Rattle.calls.specs.Twins.Arguments.{ArgueLeft, arguments_at}
 use Rattle.calls.specs.Twins.Calls.{in_body, argued, called_to}
 use Rattle.values.specs.Twins.Sizes.{kept_nodes}
-use Rattle.calls.specs.declared.arguments.Argued.TheVariants.{Done, Over}
 use Rattle.values.proofs.ValueLaws.{Typed, AllKnown}
 use Rattle.calls.proofs.ArgumentLaws.{Entered, arguments_outcome}
 use Rattle.calls.proofs.ArgumentLaws as arguments

@@ -1,9 +1,9 @@
 -- A call leads to the configuration behind it.
 use Prim.Native.Nat.{ℕ, ◌+◌, ◌*◌, ◌≤◌, ◌<◌}
 use mathlib.Core.Path.{◌≡◌, refl, ap, subst, ◌∙◌, sym as inv}
-use mathlib.Core.Bool.{Bool, true, false}
-use mathlib.Core.List.{List, [], ◌++◌}
-use mathlib.Core.Option.{Option, none, some}
+use mathlib.Core.Bool.{true}
+use mathlib.Core.List.{List}
+use mathlib.Core.Option.{some}
 use mathlib.Core.Logic.{◌⊎◌, inl, inr}
 use native.Mathlib.Omega.{arith}
 use native.Mathlib.Decide.{dec_le}
@@ -12,17 +12,14 @@ use borrow.Author.Tests.{le-ltb}
 use Rattle.expressions.specs.Expression.{Exp, nodes_all}
 use Rattle.expressions.specs.Substitution.{Substitution, apply, apply_atomic, apply_all}
 use Rattle.expressions.specs.Contraction.{CRPair}
-use Rattle.expressions.specs.Restriction.{nodes_restriction}
-use Rattle.sets.proofs.CellLaws.{restriction_cells_nodes}
 use Rattle.language.specs.Program.{Term, call, Param, Prog, find}
-use Rattle.language.specs.Scope.{all_in_scope}
 use Rattle.language.specs.WellFormed.{fits}
 use Rattle.semantics.specs.Environment.{bind_params}
 use Rattle.semantics.specs.Configuration.{ExpEnv, subst_of_env, state, with_env, nodes_state, Configuration}
 use Rattle.semantics.proofs.Scopes.{WellScoped, Covers, scoped_call}
-use Rattle.heap.specs.Twins.Moving.{Move, Left, left}
+use Rattle.heap.specs.Twins.Moving.{Left, left}
 use Rattle.heap.specs.declared.configuration.Configuration.{Configuration as InCells}
-use Rattle.heap.specs.declared.configuration.Moved.TheVariants.{On, Over}
+use Rattle.heap.specs.declared.configuration.Moved.TheVariants.{Over}
 use Rattle.heap.proofs.FrameLaws.{Held}
 use Rattle.heap.proofs.PartLaws.{nodes_joined}
 use Rattle.linking.specs.Twins.Code.{link, link_at}
@@ -31,11 +28,10 @@ use Rattle.linking.specs.Twins.Places.{env_of}
 use Rattle.linking.proofs.PlaceLaws.{bound_arguments}
 use Rattle.constants.proofs.ConstantLaws.{Constants}
 use Rattle.calls.specs.Twins.Calls.{called_to}
-use Rattle.values.proofs.ValueLaws.{Typed, AllKnown}
-use Rattle.calls.proofs.CallLaws.{Called, call_outcome, length_applied}
-use Rattle.calls.proofs.CallLaws as calls
+use Rattle.values.proofs.ValueLaws.{AllKnown}
+use Rattle.calls.proofs.CallLaws.{Called, call_outcome}
 use Rattle.values.proofs.StateLaws.{trees, HoldsPair, pair_nodes, all_known, Stands, Arrives, Leads, leads_to}
-use Rattle.values.proofs.PairLaws.{ends, ends_length, held_trees, ends_held, values_held, base_is, entries_are, state_nodes, ends_nodes, entries_few, trees_are, fits_typed, fits_length}
+use Rattle.values.proofs.PairLaws.{ends, held_trees, ends_held, values_held, base_is, entries_are, state_nodes, ends_nodes, entries_few, trees_are, fits_typed, fits_length}
 use Rattle.values.proofs.BodyLaws.{found_linked}
 
 none_past : (code : List ℕ) (i : ℕ) → 4097 ≤ i → (link_at code i).mark ≡ 0

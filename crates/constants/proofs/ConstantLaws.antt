@@ -6,11 +6,11 @@ use mathlib.Core.List.{List, [], ◌∷◌, ◌++◌, append_assoc, append-nil}
 use native.Mathlib.Omega.{arith}
 use native.Mathlib.Decide.{dec_le}
 use lib.Dec.{eqb, ltb, leb}
-use lib.ListN.{length, get_or, set, replicate, length-set, length-append}
+use lib.ListN.{length, get_or, set, replicate, length-set}
 use lib.Seq.{sets, length-sets, get_or-set_same, get_or-set_other}
-use borrow.Author.Tests.{lt-ltb, le-ltb, ltb-true, ltb-false, leb-true, leb-false, eqb-true, eqb-false}
-use Rattle.runs.specs.Twins.Runs.{cells_at, run}
-use Rattle.runs.proofs.RunLaws.{Below, below_self, below_sets, run_below, length_cells_at}
+use borrow.Author.Tests.{lt-ltb, ltb-true, ltb-false, leb-true, leb-false, eqb-true, eqb-false}
+use Rattle.runs.specs.Twins.Runs.{run}
+use Rattle.runs.proofs.RunLaws.{Below, below_self, below_sets, run_below}
 use Rattle.heap.proofs.HeapLaws.{sets_cells}
 use Rattle.expressions.specs.Expression.{Exp}
 use Rattle.expressions.specs.Substitution.{Substitution, apply}
@@ -21,7 +21,7 @@ use Rattle.linking.specs.Twins.Linked.{place_in, ExpLinked, sym_linked, e_linked
 use Rattle.linking.proofs.AgreeLaws.{exp_goes_on}
 use Rattle.linking.specs.declared.code.Link.{Link}
 use Rattle.constants.specs.Twins.Table.{constant, constant_at, entered}
-use Rattle.constants.specs.Twins.Laying.{named_in, cells_of_token, cells_of, starts_at, fits_at, is_constant, LaidLeft, laid, laid_one, laid_from, limit_of, constants_laid}
+use Rattle.constants.specs.Twins.Laying.{named_in, cells_of_token, cells_of, starts_at, is_constant, laid, laid_one, laid_from, limit_of, constants_laid}
 use Rattle.constants.specs.declared.table.Constant.{Constant}
 use Rattle.constants.specs.declared.lay.Laid.{Laid}
 

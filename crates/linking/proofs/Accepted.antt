@@ -1,16 +1,16 @@
 -- An accepted program, stored as the readers leave it, is linked.
-use Prim.Native.Nat.{ℕ, zero, suc, ◌+◌, ◌-◌, ◌%◌, ◌≤◌, ◌<◌}
+use Prim.Native.Nat.{ℕ, zero, suc, ◌+◌, ◌-◌, ◌≤◌, ◌<◌}
 use mathlib.Core.Path.{◌≡◌, refl, ap, subst, ◌∙◌, sym as inv}
-use mathlib.Core.Bool.{Bool, true, false, cond, ◌||◌}
-use mathlib.Core.List.{List, [], ◌∷◌}
+use mathlib.Core.Bool.{Bool, true, false, cond}
+use mathlib.Core.List.{List}
 use native.Mathlib.Omega.{arith}
 use native.Mathlib.Decide.{ℕ_discrete}
 use lib.Dec.{eqb, leb}
 use lib.ListN.{length, get_or, set, length-set}
 use lib.Seq.{get_or-set_same, get_or-set_other}
 use borrow.Author.Tests.{eqb-true, lt-ltb, lt-leb}
-use Rattle.language.specs.Tokens.{Token, tag}
-use Rattle.language.specs.Source.{SDef, SProg, defs, functions, prog_of, prog}
+use Rattle.language.specs.Tokens.{Token}
+use Rattle.language.specs.Source.{SDef, SProg, prog}
 use Rattle.language.specs.WellFormed.{admitted}
 use Rattle.grammar.specs.Twins.Stored as stored
 use Rattle.words.specs.Twins.Marks.{cell_of}
@@ -21,7 +21,7 @@ use Rattle.checker.specs.Twins.CheckStored.{defs_at}
 use Rattle.checker.specs.declared.check.Defs.{Defs}
 use Rattle.syntax.specs.Twins.Ends.{opens, closes, close_from, past_at, ends_from}
 use Rattle.syntax.specs.Twins.Heads.{heads_from}
-use Rattle.syntax.specs.Twins.Standing.{DefAt, define_at, DefsFrom, none_from, more_from}
+use Rattle.syntax.specs.Twins.Standing.{define_at, DefsFrom, none_from, more_from}
 use Rattle.syntax.proofs.StoredCheck.{key_of_lem, num_of, stored_order, stored_count, stored_few}
 use Rattle.syntax.proofs.EndsLaws.{ends_at}
 use Rattle.syntax.proofs.ProgramRead.{ProgramStored}

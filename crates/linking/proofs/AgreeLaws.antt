@@ -1,12 +1,10 @@
 -- What stands linked in code stands so in any code that agrees with it there.
-use Prim.Native.Nat.{ℕ, ◌+◌, ◌≤◌, ◌<◌}
-use mathlib.Core.Path.{◌≡◌, ◌∙◌}
+use Prim.Native.Nat.{ℕ, ◌≤◌, ◌<◌}
+use mathlib.Core.Path.{◌∙◌}
 use mathlib.Core.List.{List}
 use native.Mathlib.Omega.{arith}
-use lib.ListN.{length}
 use Rattle.expressions.specs.Expression.{Exp}
 use Rattle.language.specs.Program.{Term, Param, Prog}
-use Rattle.linking.specs.Twins.Code.{link_at}
 use Rattle.linking.specs.Twins.Linked.{ExpLinked, sym_linked, e_linked, a_linked, cons_linked, ExpsLinked, none_linked, more_linked, TermLinked, call_linked, same_linked, test_linked, result_linked}
 use Rattle.linking.proofs.CodeLaws.{Agree, Wrote}
 

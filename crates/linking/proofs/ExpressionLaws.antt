@@ -1,12 +1,12 @@
 -- Expressions: where each token has its link, the expression stands linked.
-use Prim.Native.Nat.{ℕ, zero, suc, ◌+◌, ◌*◌, ◌%◌, ◌≤◌, ◌<◌}
+use Prim.Native.Nat.{ℕ, ◌+◌, ◌%◌, ◌≤◌, ◌<◌}
 use Prim.Native.String.{String}
-use mathlib.Core.Path.{◌≡◌, refl, ap, ◌∙◌, sym as inv}
-use mathlib.Core.Bool.{Bool, true, false}
-use mathlib.Core.List.{List, [], ◌∷◌}
+use mathlib.Core.Path.{◌≡◌, refl, ap, ◌∙◌}
+use mathlib.Core.Bool.{false}
+use mathlib.Core.List.{List}
 use native.Mathlib.Omega.{arith}
 use lib.Dec.{eqb}
-use lib.ListN.{length, get_or}
+use lib.ListN.{get_or}
 use borrow.Author.Tests.{eqb-true}
 use Rattle.language.specs.Bytes.{txt}
 use Rattle.language.specs.Tokens.{of_program, Token}
@@ -15,10 +15,9 @@ use Rattle.language.specs.Program.{Param, pe, pa}
 use Rattle.language.specs.Source.{SExp, exp, exps}
 use Rattle.syntax.specs.Twins.Standing.{WordAt, ExpAt, symbol_at, cons_at, ExpsAt}
 use Rattle.syntax.specs.Twins.Standing as at
-use Rattle.syntax.specs.Twins.Ends.{past_at}
 use Rattle.syntax.proofs.EndsLaws.{exp_end}
 use Rattle.syntax.proofs.Placed.{exp_placed}
-use Rattle.syntax.proofs.CheckLaws.{exp_least, exp_most}
+use Rattle.syntax.proofs.CheckLaws.{exp_least}
 use Rattle.linking.specs.Twins.Code.{link, link_at}
 use Rattle.linking.specs.Twins.Linking.{place_of}
 use Rattle.linking.specs.Twins.Linked.{place_in, ExpLinked, sym_linked, e_linked, a_linked, cons_linked, ExpsLinked, none_linked, more_linked}

@@ -1,11 +1,11 @@
 -- One turn of each loop, and the parts of a conditional one by one.
-use Prim.Native.Nat.{ℕ, zero, suc, ◌+◌, ◌-◌, ◌≤◌, ◌<◌, min}
-use mathlib.Core.Path.{◌≡◌, refl, ap, ◌∙◌, sym as inv}
-use mathlib.Core.Bool.{Bool, true, false, cond}
+use Prim.Native.Nat.{ℕ, zero, suc, ◌+◌, ◌-◌, ◌≤◌, ◌<◌}
+use mathlib.Core.Path.{◌≡◌, refl}
+use mathlib.Core.Bool.{cond}
 use mathlib.Core.List.{List}
 use native.Mathlib.Omega.{arith}
 use lib.Dec.{eqb}
-use lib.ListN.{length, get_or}
+use lib.ListN.{get_or}
 use Rattle.linking.specs.declared.code.Link.{Link}
 use Rattle.linking.specs.Twins.Code.{with_link}
 use Rattle.linking.specs.Twins.Linking.{on, if_link, true_names, false_names, linked, key_of, same_name, place_from, head_from, closing_from, token_link, range_linked, NamesLeft, names_left, pushed_name, parameters_named, Linked, range, called, conditional, form_of, term_linked, if_linked, definition_linked, definitions_linked}

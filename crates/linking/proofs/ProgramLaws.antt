@@ -1,26 +1,26 @@
 -- A program that stands in the tokens stands linked in the code that linking leaves.
 use Prim.Native.Nat.{ℕ, zero, suc, ◌+◌, ◌-◌, ◌%◌, ◌≤◌, ◌<◌, min}
-use mathlib.Core.Path.{◌≡◌, refl, ap, ap₂, subst, ◌∙◌, sym as inv}
+use mathlib.Core.Path.{◌≡◌, refl, ap, subst, ◌∙◌, sym as inv}
 use mathlib.Core.Bool.{Bool, true, false, cond}
 use mathlib.Core.List.{List, [], ◌∷◌, ◌++◌, append_assoc, append-nil}
 use native.Mathlib.Omega.{arith}
-use lib.Dec.{eqb, ltb}
+use lib.Dec.{eqb}
 use lib.ListN.{length, get_or, replicate, length-replicate}
 use Rattle.language.specs.Tokens.{Token}
-use Rattle.language.specs.Program.{Term, Param, pe, pa, Prog, find}
+use Rattle.language.specs.Program.{Param, pe, pa, Prog, find}
 use Rattle.language.specs.Source.{SParam, SDef, params, term, functions, prog_of, place_of}
 use Rattle.syntax.specs.Twins.Standing.{WordAt, ParamsAt, DefAt, define_at, DefsFrom, none_from, more_from}
 use Rattle.syntax.specs.Twins.Standing as at
 use Rattle.syntax.proofs.ProgramLaws.{term_bounds}
-use Rattle.linking.specs.Twins.Code.{link, link_at, with_link}
-use Rattle.linking.specs.Twins.Linking.{on, key_of, Linked, linked, head_from, head_of, closing_from, closing_at, pushed_name, parameters_named, term_linked, definition_linked, definitions_linked, program_linked}
+use Rattle.linking.specs.Twins.Code.{link_at}
+use Rattle.linking.specs.Twins.Linking.{on, Linked, linked, head_from, head_of, closing_from, closing_at, pushed_name, parameters_named, definition_linked, definitions_linked, program_linked}
 use Rattle.linking.specs.Twins.Linked.{with_name, TermLinked, BodiesLinked, no_bodies, more_bodies, ProgramLinked}
 use Rattle.linking.proofs.CodeLaws.{Wrote, wider}
-use Rattle.linking.proofs.AgreeLaws.{before_agrees, term_goes_on, term_agrees}
-use Rattle.linking.proofs.TokenLaws.{TokensIn, IsName, e_name, a_name, NamesAre, no_names, more_names, word_key}
+use Rattle.linking.proofs.AgreeLaws.{term_goes_on, term_agrees}
+use Rattle.linking.proofs.TokenLaws.{TokensIn, e_name, a_name, no_names, word_key}
 use Rattle.linking.proofs.NameLaws.{Names, names_less, name_pushed}
 use Rattle.linking.proofs.NewNames.{BindsNew, AllBindNew}
-use Rattle.linking.proofs.TermParts.{on_in, LinkedTo, Calls}
+use Rattle.linking.proofs.TermParts.{Calls}
 use Rattle.linking.proofs.TermLaws.{term_linked_lem}
 
 -- as many tokens as parameters

@@ -7,14 +7,14 @@ use lib.ListN.{length, get_or}
 use Rattle.language.specs.Tokens.{ename, aname, of_program, Token}
 use Rattle.language.specs.Program.{eqa, consp, Term, conditional, Param, pe, pa, Prog}
 use Rattle.language.specs.Source.{SExp, STerm, exp, term}
-use Rattle.syntax.specs.Twins.Standing.{WordAt, NameAt, ExpAt, ConditionAt, eqa_at, consp_at, TermAt, call_at, if_at, result_at}
+use Rattle.syntax.specs.Twins.Standing.{WordAt, NameAt, ExpAt, eqa_at, consp_at, TermAt, call_at, if_at, result_at}
 use Rattle.syntax.proofs.EndsLaws.{exp_end, condition_end, term_end}
 use Rattle.syntax.proofs.Placed.{exp_placed, condition_placed, term_placed}
 use Rattle.syntax.proofs.CheckLaws.{exp_least}
 use Rattle.syntax.proofs.ProgramLaws.{term_bounds}
 use Rattle.linking.specs.Twins.Code.{link, link_at, with_link}
-use Rattle.linking.specs.Twins.Linking.{on, key_of, Linked, linked, form_of, if_link, pushed_name, true_names, false_names, range_linked, term_linked}
-use Rattle.linking.specs.Twins.Linked.{with_name, TermLinked, same_linked, test_linked}
+use Rattle.linking.specs.Twins.Linking.{Linked, linked, form_of, if_link, pushed_name, true_names, false_names, range_linked, term_linked}
+use Rattle.linking.specs.Twins.Linked.{with_name, same_linked, test_linked}
 use Rattle.linking.proofs.CodeLaws.{with_long, with_same, with_wrote, wider, wrote_then, range_wrote, range_at}
 use Rattle.linking.proofs.AgreeLaws.{before_agrees, exp_agrees, term_agrees}
 use Rattle.linking.proofs.TokenLaws.{TokensIn, e_name, a_name, NamesAre, no_names, more_names, link_of, word_key}

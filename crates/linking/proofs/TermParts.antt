@@ -1,32 +1,27 @@
 -- The parts of a term by themselves: an expression as a term, a call.
-use Prim.Native.Nat.{ℕ, zero, suc, ◌+◌, ◌-◌, ◌*◌, ◌%◌, ◌≤◌, ◌<◌, min}
-use Prim.Native.String.{String}
-use mathlib.Core.Path.{◌≡◌, refl, ap, ap₂, subst, ◌∙◌, sym as inv}
-use mathlib.Core.Bool.{Bool, true, false, cond}
-use mathlib.Core.List.{List, [], ◌∷◌, ◌++◌}
+use Prim.Native.Nat.{ℕ, zero, suc, ◌+◌, ◌-◌, ◌%◌, ◌≤◌, ◌<◌, min}
+use mathlib.Core.Path.{◌≡◌, refl, ◌∙◌}
+use mathlib.Core.Bool.{false}
+use mathlib.Core.List.{List, []}
 use native.Mathlib.Omega.{arith}
-use lib.Dec.{eqb, ltb}
+use lib.Dec.{eqb}
 use lib.ListN.{length, get_or}
-use borrow.Author.Tests.{eqb-true, ne_eqb}
-use Rattle.language.specs.Bytes.{txt}
 use Rattle.language.specs.Tokens.{ename, aname, of_program, Token}
 use Rattle.language.specs.Tokens as tokens
-use Rattle.language.specs.Reader.{is}
-use Rattle.language.specs.Program.{Term, call, result, Param, pe, pa, Prog, find}
+use Rattle.language.specs.Program.{Term, call, result, Param, Prog, find}
 use Rattle.language.specs.Source.{SExp, exp, exps, place_of}
 use Rattle.syntax.specs.Twins.Standing.{WordAt, NameAt, ExpAt, symbol_at, cons_at, ExpsAt, TermAt, call_at, result_at}
 use Rattle.syntax.specs.Twins.Standing as at
 use Rattle.syntax.proofs.EndsLaws.{exp_end, term_end}
 use Rattle.syntax.proofs.Placed.{exp_placed, term_placed}
 use Rattle.syntax.proofs.CheckLaws.{exp_least, exp_most}
-use Rattle.linking.specs.declared.code.Link.{Link}
-use Rattle.linking.specs.Twins.Code.{link, link_at, with_link}
-use Rattle.linking.specs.Twins.Linking.{on, key_of, Linked, linked, head_of, closing_at, form_of, call_link, token_link, range_linked, range, called, term_linked}
-use Rattle.linking.specs.Twins.Linked.{ExpLinked, ExpsLinked, TermLinked, call_linked, result_linked}
-use Rattle.linking.proofs.CodeLaws.{Agree, Wrote, with_long, with_same, with_other, with_wrote, wrote_then, range_wrote, range_at}
-use Rattle.linking.proofs.TokenLaws.{TokensIn, IsName, e_name, a_name, NamesAre, no_names, more_names, link_of, word_key}
+use Rattle.linking.specs.Twins.Code.{link, with_link}
+use Rattle.linking.specs.Twins.Linking.{on, Linked, head_of, closing_at, form_of, call_link, range_linked, range, term_linked}
+use Rattle.linking.specs.Twins.Linked.{TermLinked, call_linked, result_linked}
+use Rattle.linking.proofs.CodeLaws.{Wrote, with_same, with_other, with_wrote, wrote_then, range_wrote, range_at}
+use Rattle.linking.proofs.TokenLaws.{TokensIn, word_key}
 use Rattle.linking.proofs.NameLaws.{Names}
-use Rattle.linking.proofs.ExpressionLaws.{Each, exp_linked, exps_least, exps_linked}
+use Rattle.linking.proofs.ExpressionLaws.{exp_linked, exps_least, exps_linked}
 
 pub on_in : (i k : ℕ) → i ≤ 4097 → k ≤ 4097 → on i k ≡ i + k
 on_in i k a b = omega arith

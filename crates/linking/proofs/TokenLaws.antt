@@ -1,17 +1,17 @@
 -- Tokens in storage, and the link of each by itself.
-use Prim.Native.Nat.{ℕ, zero, suc, ◌+◌, ◌*◌, ◌%◌, ◌≤◌, ◌<◌, min}
+use Prim.Native.Nat.{ℕ, suc, ◌+◌, ◌*◌, ◌%◌, ◌≤◌, ◌<◌}
 use Prim.Native.String.{String}
-use mathlib.Core.Path.{◌≡◌, refl, ap, ◌∙◌, sym as inv}
-use mathlib.Core.Bool.{Bool, true, false, cond, not}
-use mathlib.Core.List.{List, [], ◌∷◌, ◌++◌}
+use mathlib.Core.Path.{◌≡◌, ◌∙◌, sym as inv}
+use mathlib.Core.Bool.{Bool, true, false, cond}
+use mathlib.Core.List.{List, [], ◌∷◌}
 use native.Mathlib.Omega.{arith}
-use lib.Dec.{eqb, leb, ltb}
+use lib.Dec.{eqb}
 use lib.ListN.{length, get_or}
-use borrow.Author.Tests.{eqb-true, eq-eqb, ne_eqb, lt-leb}
+use borrow.Author.Tests.{eqb-true, ne_eqb, lt-leb}
 use Rattle.language.specs.Bytes.{txt}
 use Rattle.language.specs.Tokens.{Kind, symbol, ename, aname, plain, tag, Token}
 use Rattle.language.specs.Tokens as tokens
-use Rattle.language.specs.Reader.{is, is_a}
+use Rattle.language.specs.Reader.{is}
 use Rattle.language.specs.Program.{Param, pe, pa, same_param}
 use Rattle.syntax.specs.Twins.Standing.{WordAt, NameAt}
 use Rattle.syntax.specs.Twins.Ends.{past_at}

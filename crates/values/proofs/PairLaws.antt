@@ -1,19 +1,18 @@
 -- The entries of a cr-pair: those of inputs and wanted output, then those of the names.
-use Prim.Native.Nat.{ℕ, suc, ◌+◌, ◌*◌, ◌≤◌, ◌<◌}
+use Prim.Native.Nat.{ℕ, suc, ◌+◌, ◌≤◌}
 use mathlib.Core.Path.{◌≡◌, refl, ap, subst, ◌∙◌, sym as inv}
-use mathlib.Core.Bool.{Bool, true, false}
+use mathlib.Core.Bool.{true, false}
 use mathlib.Core.List.{List, [], ◌∷◌, ◌++◌, append_assoc}
 use native.Mathlib.Omega.{arith}
 use lib.ListN.{length, length-append}
-use Rattle.expressions.specs.Expression.{AtomicExp, Exp, atm, evar, pair, nodes_all}
-use Rattle.expressions.specs.Substitution.{Substitution, apply, apply_all}
+use Rattle.expressions.specs.Expression.{Exp, atm, evar, pair, nodes_all}
+use Rattle.expressions.specs.Substitution.{Substitution, apply_all}
 use Rattle.expressions.specs.Contraction.{CRPair}
 use Rattle.expressions.specs.Restriction.{nodes_restriction}
 use Rattle.expressions.proofs.Tests.{and_both}
-use Rattle.language.specs.Program.{Param, pe, pa, Def, Prog, find}
-use Rattle.language.specs.WellFormed.{fits, distinct_params, well_formed_term, well_formed_defs}
-use Rattle.language.specs.Scope.{scope_of, is_atomic}
-use Rattle.language.proofs.Tests.{and_three}
+use Rattle.language.specs.Program.{Param, pe, pa}
+use Rattle.language.specs.WellFormed.{fits}
+use Rattle.language.specs.Scope.{is_atomic}
 use Rattle.semantics.specs.Configuration.{state, nodes_state}
 use Rattle.heap.specs.declared.configuration.Configuration.{Configuration as InCells}
 use Rattle.heap.proofs.FrameLaws.{Held}

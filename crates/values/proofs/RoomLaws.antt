@@ -1,5 +1,5 @@
 -- Where the heap has no room for the value of an expression, `value` says so.
-use Prim.Native.Nat.{ℕ, zero, suc, ◌+◌, ◌-◌, ◌*◌, ◌≤◌, ◌<◌, min}
+use Prim.Native.Nat.{ℕ, ◌+◌, ◌-◌, ◌*◌, ◌≤◌, ◌<◌, min}
 use mathlib.Core.Path.{◌≡◌, refl, ap, subst, ◌∙◌, sym as inv}
 use mathlib.Core.Bool.{Bool, true, false}
 use mathlib.Core.List.{List, [], ◌∷◌}
@@ -16,10 +16,8 @@ use Rattle.language.specs.Program.{Param, pe, pa}
 use Rattle.semantics.specs.Configuration.{subst_of_env}
 use Rattle.sets.specs.Cells.{cells}
 use Rattle.sets.specs.Twins.Fill.{FillAnswer, fill_answer}
-use Rattle.sets.specs.declared.fill.Filled.{Filled}
 use Rattle.sets.specs.declared.fill.Filled.TheVariants.{Done, Over as FilledOver}
 use Rattle.sets.proofs.CellLaws.{cells_nodes}
-use Rattle.runs.specs.Twins.Runs.{written, run, cells_at}
 use Rattle.heap.specs.Twins.Entries.{entry_from, entry_to}
 use Rattle.runs.proofs.RunLaws.{Below, below_self, below_sets, length_cells_at, written_over}
 use Rattle.heap.proofs.HeapLaws.{Holds, holds_below}
@@ -31,7 +29,7 @@ use Rattle.linking.specs.Twins.Linked.{place_in, ExpLinked, sym_linked, e_linked
 use Rattle.linking.specs.Twins.Places.{env_of}
 use Rattle.linking.proofs.AgreeLaws.{exp_goes_on}
 use Rattle.linking.proofs.PlaceLaws.{lookup_e, lookup_a}
-use Rattle.values.specs.Twins.Values.{entry_at, place_at, onward_fill, token_written, tokens_written, made_of, value_at}
+use Rattle.values.specs.Twins.Values.{entry_at, token_written, tokens_written, made_of, value_at}
 use Rattle.values.specs.declared.value.Valued.TheVariants.{Over}
 use Rattle.values.proofs.ValueLaws.{held_at, Typed, typed_length, atom_typed, Known, two_parts, then, nothing_token, cell_token, tokens_mean, ValuedAs, valued_name, valued_constant, value_means}
 

@@ -1,12 +1,11 @@
 -- "21 over 4,096 nodes" where the entries hold trees.
 use Prim.Native.Nat.{ℕ, ◌+◌, ◌*◌, ◌≤◌, ◌<◌, min}
-use mathlib.Core.Path.{◌≡◌, refl, ap, ◌∙◌}
+use mathlib.Core.Path.{◌≡◌}
 use mathlib.Core.List.{List}
 use native.Mathlib.Omega.{arith}
 use lib.ListN.{length}
 use borrow.Author.Tests.{lt-ltb, le-ltb}
 use Rattle.expressions.specs.Expression.{Exp, nodes_all}
-use Rattle.heap.specs.Twins.Entries.{nodes_from}
 use Rattle.heap.specs.declared.configuration.Configuration.{Configuration}
 use Rattle.heap.specs.declared.configuration.Moved.TheVariants.{On, Over}
 use Rattle.heap.proofs.FrameLaws.{Held}

@@ -1,26 +1,24 @@
 -- A configuration of semantics/specs/Configuration.antt in heap, frame and non-equalities, and what a transition to another one leaves.
-use Prim.Native.Nat.{ℕ, zero, suc, ◌+◌, ◌*◌, ◌≤◌, ◌<◌}
-use mathlib.Core.Path.{◌≡◌, refl, ap, subst, ◌∙◌, sym as inv}
+use Prim.Native.Nat.{ℕ, suc, ◌+◌, ◌≤◌, ◌<◌}
+use mathlib.Core.Path.{◌≡◌, refl, subst}
 use mathlib.Core.Bool.{Bool, true, false, cond}
 use mathlib.Core.List.{List, [], ◌∷◌, ◌++◌}
 use mathlib.Core.Option.{Option, none, some}
 use mathlib.Core.Logic.{◌⊎◌, inl, inr}
 use native.Mathlib.Omega.{arith}
 use lib.Dec.{eqb}
-use lib.ListN.{length, length-append}
+use lib.ListN.{length}
 use borrow.Author.Tests.{eqb-false}
-use Rattle.expressions.specs.Expression.{AtomicExp, sym, avar, Exp, atm, evar, pair, nodes, nodes_all}
+use Rattle.expressions.specs.Expression.{AtomicExp, sym, avar, Exp, atm, evar, pair, nodes_all}
 use Rattle.expressions.specs.Restriction.{nodes_restriction}
 use Rattle.expressions.specs.Contraction.{CRPair}
-use Rattle.expressions.specs.Class.{nodes_io}
 use Rattle.expressions.proofs.Tests.{and_both}
 use Rattle.restrictions.proofs.RestrictionLaws.{Front}
-use Rattle.language.specs.Program.{Term, Param, pe, pa, same_param, Prog}
-use Rattle.language.specs.Scope.{Scope, is_in, in_scope, all_in_scope}
+use Rattle.language.specs.Program.{Param, pe, pa, Prog}
+use Rattle.language.specs.Scope.{Scope, in_scope, all_in_scope}
 use Rattle.semantics.specs.Environment.{Env, Binds}
 use Rattle.semantics.specs.Environment as environment
 use Rattle.semantics.specs.Configuration.{state, nodes_values, nodes_state, Configuration}
-use Rattle.semantics.proofs.Environments.{Bound}
 use Rattle.semantics.proofs.Scopes.{Covers}
 use Rattle.heap.specs.Twins.Moving.{Left}
 use Rattle.heap.specs.declared.configuration.Configuration.{Configuration as InCells}

@@ -2,25 +2,24 @@
 use Prim.Native.Nat.{ℕ, zero, suc, ◌+◌, ◌-◌, ◌*◌, ◌≤◌, ◌<◌, min}
 use mathlib.Core.Path.{◌≡◌, refl, ap, ap₂, subst, ◌∙◌, sym as inv}
 use mathlib.Core.Bool.{Bool, true, false, cond}
-use mathlib.Core.List.{List, [], ◌∷◌, ◌++◌, append_assoc}
+use mathlib.Core.List.{List, [], ◌∷◌, ◌++◌}
 use native.Mathlib.Omega.{arith}
-use native.Mathlib.Numerals.{add-one}
-use lib.Dec.{eqb, ltb, leb}
-use lib.ListN.{length, get_or, set}
+use lib.Dec.{eqb, ltb}
+use lib.ListN.{length, get_or}
 use lib.Seq.{sets, length-sets}
 use borrow.Author.Tests.{lt-ltb, le-ltb, le-leb, lt-leb, ltb-true}
 use Rattle.expressions.specs.Expression.{AtomicExp, sym, avar, Exp, atm, evar, pair, nodes}
-use Rattle.expressions.specs.Substitution.{Substitution, apply, apply_atomic}
+use Rattle.expressions.specs.Substitution.{Substitution, apply}
 use Rattle.language.specs.Program.{Param, pe, pa, atom_of}
-use Rattle.semantics.specs.Configuration.{ExpEnv, subst_of_env}
-use Rattle.sets.specs.Cells.{cells, symbol_code, atomic_code}
+use Rattle.semantics.specs.Configuration.{subst_of_env}
+use Rattle.sets.specs.Cells.{cells}
 use Rattle.sets.specs.Twins.Fill.{FillAnswer, fill_answer}
 use Rattle.sets.specs.declared.fill.Filled.{Filled}
 use Rattle.sets.specs.declared.fill.Filled.TheVariants.{Done, Over as FilledOver}
 use Rattle.sets.proofs.CellLaws.{cells_nodes}
-use Rattle.runs.specs.Twins.Runs.{cells_at, run, written, appended}
+use Rattle.runs.specs.Twins.Runs.{cells_at, run}
 use Rattle.heap.specs.Twins.Entries.{entry_known, entry_from, entry_to}
-use Rattle.runs.proofs.RunLaws.{Below, below_self, below_sets, run_below, length_cells_at, written_done, sets_append}
+use Rattle.runs.proofs.RunLaws.{Below, below_self, below_sets, length_cells_at, written_done, sets_append}
 use Rattle.heap.proofs.HeapLaws.{Holds, holds_below, sets_cells}
 use Rattle.heap.proofs.KnownLaws.{KnownOf, unknown, known_head_lem}
 use Rattle.heap.proofs.FrameLaws.{Held}
@@ -34,7 +33,7 @@ use Rattle.linking.specs.Twins.Linked.{place_in, ExpLinked, sym_linked, e_linked
 use Rattle.linking.specs.Twins.Places.{env_of}
 use Rattle.linking.proofs.AgreeLaws.{exp_goes_on}
 use Rattle.linking.proofs.PlaceLaws.{lookup_e, lookup_a}
-use Rattle.values.specs.Twins.Values.{entry_at, place_at, onward_fill, token_written, tokens_written, ValueLeft, value_left, made_at, head_end_at, known_pair, made_of, value_at}
+use Rattle.values.specs.Twins.Values.{entry_at, onward_fill, token_written, tokens_written, ValueLeft, value_left, made_at, head_end_at, known_pair, made_of, value_at}
 use Rattle.values.specs.declared.value.Valued.{Valued}
 use Rattle.values.specs.declared.value.Valued.TheVariants.{At, Over}
 

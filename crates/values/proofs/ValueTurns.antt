@@ -4,7 +4,7 @@ use mathlib.Core.Path.{◌≡◌}
 use mathlib.Core.List.{List, [], ◌∷◌}
 use lib.ListN.{set}
 use native.Mathlib.Omega.{arith}
-use Rattle.sets.specs.Twins.Fill.{FillAnswer, fill_answer}
+use Rattle.sets.specs.Twins.Fill.{fill_answer}
 use Rattle.sets.specs.declared.fill.Filled.TheVariants.{Done, Over}
 use Rattle.runs.specs.Twins.Runs.{written}
 use Rattle.runs.proofs.RunLaws.{written_over, written_done}

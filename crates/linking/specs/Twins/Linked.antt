@@ -1,6 +1,6 @@
 -- Where the parts of a program stand in linked code. sc are the names in reach, by their places.
 -- proofs/ProgramLaws.antt, Accepted.antt: an accepted program stands so in the code that linking leaves.
-use Rattle.std.specs.Prelude.{ℕ, zero, suc, ◌+◌, ◌*◌, ◌<◌, ◌≡◌, false, cond, List, [], ◌∷◌, ◌++◌, length}
+use Rattle.std.specs.Prelude.{ℕ, suc, ◌+◌, ◌*◌, ◌<◌, ◌≡◌, false, cond, List, [], ◌∷◌, ◌++◌, length}
 use Rattle.expressions.specs.Expression.{sym, avar, Exp, atm, evar, pair}
 use Rattle.language.specs.Program.{eqa, consp, Term, call, conditional, result, Param, pe, pa, same_param, Def, Prog, find}
 use Rattle.language.specs.WellFormed.{has_param}

@@ -1,5 +1,5 @@
 -- The values of expressions over cells of any content.
-use Rattle.std.specs.Prelude.{ℕ, zero, suc, ◌+◌, ◌-◌, ◌*◌, min, cond, List, [], ◌∷◌, eqb, ltb, leb, get_or}
+use Rattle.std.specs.Prelude.{ℕ, zero, suc, ◌+◌, ◌-◌, ◌*◌, min, cond, List, [], ◌∷◌, eqb, ltb, leb}
 use Rattle.sets.specs.Twins.Fill.{FillAnswer, fill_answer}
 use Rattle.sets.specs.declared.fill.Filled.{Filled}
 use Rattle.sets.specs.declared.fill.Filled.TheVariants.{Done, Over as FilledOver}

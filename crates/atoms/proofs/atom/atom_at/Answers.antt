@@ -1,6 +1,5 @@
 use borrow.Author.Tests.{eq-eqb, ne_eqb}
 use Rattle.atoms.specs.Twins.Atoms.{atom_at}
-use borrow.Author.Rules.{rules}
 use Rattle.atoms.proofs.atom.atom_at.Goals as goal
 
 pub returns-then-mark-eq-CELL : goal.returns-then-mark-eq-CELL

@@ -1,6 +1,5 @@
 use borrow.Author.Tests.{le-leb, lt-leb}
 use Rattle.atoms.specs.Twins.Atoms.{first_cell}
-use borrow.Author.Rules.{rules}
 use Rattle.atoms.proofs.atom.first_cell.Goals as goal
 
 pub returns-then-i-ge4120 : goal.returns-then-i-ge4120

@@ -1,5 +1,4 @@
 use Rattle.atoms.specs.Twins.Atoms.{sides_at}
-use borrow.Author.Rules.{rules}
 use Rattle.atoms.proofs.atom.sides_at.Goals as goal
 
 pub returns : goal.returns

@@ -1,5 +1,4 @@
 use Rattle.atoms.specs.Twins.Choices.{branches_of}
-use borrow.Author.Rules.{rules}
 use Rattle.atoms.proofs.choice.same_branches.Goals as goal
 
 pub returns : goal.returns

@@ -1,5 +1,4 @@
 use Rattle.atoms.specs.Twins.Taking.{taken_by}
-use borrow.Author.Rules.{rules}
 use Rattle.atoms.proofs.take.take.Goals as goal
 
 pub returns : goal.returns

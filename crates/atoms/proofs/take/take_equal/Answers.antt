@@ -1,5 +1,4 @@
 use Rattle.atoms.specs.Twins.Taking.{equal_taken}
-use borrow.Author.Rules.{rules}
 use Rattle.atoms.proofs.take.take_equal.Goals as goal
 
 pub returns : goal.returns

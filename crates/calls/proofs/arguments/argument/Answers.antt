@@ -1,7 +1,6 @@
 use borrow.Author.Tests.{eq-eqb}
 use Rattle.values.specs.Twins.Values.{value_at}
 use Rattle.calls.specs.Twins.Arguments.{argument_at}
-use borrow.Author.Rules.{rules}
 use Rattle.calls.proofs.arguments.argument.Goals as goal
 
 pub returns-then-mark-eq-NAME : goal.returns-then-mark-eq-NAME

@@ -1,7 +1,4 @@
-use mathlib.Core.Path.{◌≡◌}
-use Rattle.calls.specs.Twins.Arguments.{arguments_at}
 use Rattle.calls.proofs.ArgumentTurns.{arguments_turn, arguments_end}
-use borrow.Author.Rules.{rules}
 use Rattle.calls.proofs.arguments.arguments.Goals as goal
 
 pub loop-left-preserved : goal.loop-left-preserved

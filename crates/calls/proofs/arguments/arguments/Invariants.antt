@@ -1,7 +1,5 @@
 use mathlib.Core.Path.{◌≡◌}
 use Rattle.calls.specs.Twins.Arguments.{arguments_at}
-use Rattle.calls.proofs.ArgumentTurns.{arguments_turn, arguments_end}
-use borrow.Author.Rules.{rules}
 use Rattle.calls.proofs.arguments.arguments.Given as goal
 
 abbrev pub invariant-loop-left : goal.invariant-loop-left

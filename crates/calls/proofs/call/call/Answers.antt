@@ -1,4 +1,3 @@
-use borrow.Author.Rules.{rules}
 use Rattle.calls.specs.Twins.Calls.{called_to}
 use Rattle.calls.proofs.call.call.Goals as goal
 

@@ -1,4 +1,3 @@
-use borrow.Author.Rules.{rules}
 use Rattle.calls.specs.Twins.Calls.{in_body}
 use Rattle.calls.proofs.call.in_body.Goals as goal
 

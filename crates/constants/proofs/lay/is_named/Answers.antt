@@ -1,10 +1,7 @@
-use Prim.Native.Nat.{◌-◌}
-use mathlib.Core.Path.{◌≡◌, refl, ap, ◌∙◌, sym as inv}
+use mathlib.Core.Path.{refl, ap, ◌∙◌, sym as inv}
 use native.Mathlib.Omega.{arith}
 use Rattle.linking.specs.declared.code.Link.{Link}
-use Rattle.constants.specs.Twins.Laying.{named_in}
 use Rattle.constants.proofs.LayTurns.{named_here, named_later, named_none}
-use borrow.Author.Rules.{rules}
 use Rattle.constants.proofs.lay.is_named.Goals as goal
 
 pub loop-j-init : goal.loop-j-init

@@ -1,10 +1,6 @@
 use Prim.Native.Nat.{◌-◌}
-use mathlib.Core.Path.{◌≡◌, refl, ap, ◌∙◌, sym as inv}
-use native.Mathlib.Omega.{arith}
-use Rattle.linking.specs.declared.code.Link.{Link}
+use mathlib.Core.Path.{◌≡◌}
 use Rattle.constants.specs.Twins.Laying.{named_in}
-use Rattle.constants.proofs.LayTurns.{named_here, named_later, named_none}
-use borrow.Author.Rules.{rules}
 use Rattle.constants.proofs.lay.is_named.Given as goal
 
 abbrev pub invariant-loop-j : goal.invariant-loop-j

@@ -1,5 +1,5 @@
-use Prim.Native.Nat.{ℕ, ◌+◌, ◌-◌, ◌≤◌}
-use mathlib.Core.Path.{◌≡◌, refl, ap, ◌∙◌, sym as inv}
+use Prim.Native.Nat.{ℕ, ◌+◌, ◌-◌}
+use mathlib.Core.Path.{refl, ap, ◌∙◌, sym as inv}
 use mathlib.Core.List.{◌∷◌}
 use native.Mathlib.Omega.{arith}
 use native.Mathlib.Numerals.{add-one}
@@ -8,7 +8,6 @@ use lib.Seq.{sets}
 use Rattle.linking.specs.declared.code.Link.{Link}
 use Rattle.constants.specs.Twins.Laying.{cells_of}
 use Rattle.constants.proofs.LayTurns.{cells_here, cells_later, cells_none}
-use borrow.Author.Rules.{rules}
 use Rattle.constants.proofs.lay.lay.Goals as goal
 
 pub loop-j-init : goal.loop-j-init

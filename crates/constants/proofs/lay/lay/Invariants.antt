@@ -1,14 +1,8 @@
-use Prim.Native.Nat.{ℕ, ◌+◌, ◌-◌, ◌≤◌}
-use mathlib.Core.Path.{◌≡◌, refl, ap, ◌∙◌, sym as inv}
-use mathlib.Core.List.{◌∷◌}
-use native.Mathlib.Omega.{arith}
-use native.Mathlib.Numerals.{add-one}
-use lib.ListN.{length, set}
+use Prim.Native.Nat.{◌+◌, ◌-◌, ◌≤◌}
+use mathlib.Core.Path.{◌≡◌}
+use lib.ListN.{length}
 use lib.Seq.{sets}
-use Rattle.linking.specs.declared.code.Link.{Link}
 use Rattle.constants.specs.Twins.Laying.{cells_of}
-use Rattle.constants.proofs.LayTurns.{cells_here, cells_later, cells_none}
-use borrow.Author.Rules.{rules}
 use Rattle.constants.proofs.lay.lay.Given as goal
 
 abbrev pub invariant-loop-j : goal.invariant-loop-j

@@ -1,9 +1,8 @@
 use Prim.Native.Nat.{ℕ, ◌+◌, ◌-◌}
-use mathlib.Core.Path.{◌≡◌, refl, ap, ◌∙◌, sym as inv}
+use mathlib.Core.Path.{◌≡◌, ap, ◌∙◌, sym as inv}
 use native.Mathlib.Omega.{arith}
 use Rattle.constants.specs.Twins.Laying.{LaidLeft, laid_from, constants_laid}
 use Rattle.constants.proofs.LayTurns.{laid_again, laid_end}
-use borrow.Author.Rules.{rules}
 use Rattle.constants.proofs.lay.lay_constants.Goals as goal
 
 pub loop-i-init : goal.loop-i-init

@@ -1,9 +1,6 @@
-use Prim.Native.Nat.{ℕ, ◌+◌, ◌-◌}
-use mathlib.Core.Path.{◌≡◌, refl, ap, ◌∙◌, sym as inv}
-use native.Mathlib.Omega.{arith}
-use Rattle.constants.specs.Twins.Laying.{LaidLeft, laid_from, constants_laid}
-use Rattle.constants.proofs.LayTurns.{laid_again, laid_end}
-use borrow.Author.Rules.{rules}
+use Prim.Native.Nat.{◌-◌}
+use mathlib.Core.Path.{◌≡◌}
+use Rattle.constants.specs.Twins.Laying.{laid_from}
 use Rattle.constants.proofs.lay.lay_constants.Given as goal
 
 abbrev pub invariant-loop-i : goal.invariant-loop-i

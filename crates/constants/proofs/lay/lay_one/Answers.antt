@@ -3,7 +3,6 @@ use native.Mathlib.Omega.{arith}
 use Rattle.linking.specs.declared.code.Link.{Link}
 use Rattle.constants.specs.Twins.Laying.{laid_one}
 use Rattle.constants.proofs.ConstantLaws.{makes_room}
-use borrow.Author.Rules.{rules}
 use Rattle.constants.proofs.lay.lay_one.Goals as goal
 
 pub lay-end-requires : goal.lay-end-requires

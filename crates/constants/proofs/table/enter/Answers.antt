@@ -1,6 +1,5 @@
 use borrow.Author.Tests.{lt-ltb, le-ltb}
 use Rattle.constants.specs.Twins.Table.{entered}
-use borrow.Author.Rules.{rules}
 use Rattle.constants.proofs.table.enter.Goals as goal
 
 pub returns-then-i-lt-TOKENS : goal.returns-then-i-lt-TOKENS

@@ -1,6 +1,5 @@
 use borrow.Author.Tests.{lt-ltb, le-ltb}
 use Rattle.linking.specs.Twins.Code.{link_at}
-use borrow.Author.Rules.{rules}
 use Rattle.linking.proofs.code.link_at.Goals as goal
 
 pub returns-then-i-lt-TOKENS : goal.returns-then-i-lt-TOKENS

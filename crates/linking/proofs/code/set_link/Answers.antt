@@ -1,6 +1,5 @@
 use borrow.Author.Tests.{lt-ltb, le-ltb}
 use Rattle.linking.specs.Twins.Code.{with_link}
-use borrow.Author.Rules.{rules}
 use Rattle.linking.proofs.code.set_link.Goals as goal
 
 pub returns-then-i-lt-TOKENS : goal.returns-then-i-lt-TOKENS

@@ -1,8 +1,4 @@
-use mathlib.Core.Path.{◌≡◌}
-use Prim.Native.Nat.{◌-◌}
-use Rattle.linking.specs.Twins.Linking.{range_linked}
 use Rattle.linking.proofs.LinkTurns.{range_turn, range_end}
-use borrow.Author.Rules.{rules}
 use Rattle.linking.proofs.expression.link_range.Goals as goal
 
 pub loop-i-preserved : goal.loop-i-preserved

@@ -1,8 +1,6 @@
 use mathlib.Core.Path.{◌≡◌}
 use Prim.Native.Nat.{◌-◌}
 use Rattle.linking.specs.Twins.Linking.{range_linked}
-use Rattle.linking.proofs.LinkTurns.{range_turn, range_end}
-use borrow.Author.Rules.{rules}
 use Rattle.linking.proofs.expression.link_range.Given as goal
 
 abbrev pub invariant-loop-i : goal.invariant-loop-i

@@ -1,7 +1,6 @@
 use mathlib.Core.Path.{◌∙◌, sym}
 use borrow.Author.Tests.{eq-eqb, ne_eqb}
 use Rattle.linking.specs.Twins.Linking.{token_link}
-use borrow.Author.Rules.{rules}
 use Rattle.linking.proofs.expression.token_link.Goals as goal
 
 pub returns-then-is_pair : goal.returns-then-is_pair

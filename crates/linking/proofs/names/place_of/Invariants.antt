@@ -1,8 +1,6 @@
 use mathlib.Core.Path.{◌≡◌}
 use Prim.Native.Nat.{◌-◌, min}
 use Rattle.linking.specs.Twins.Linking.{place_of, place_from}
-use Rattle.linking.proofs.LinkTurns.{all_left, place_turn, place_end}
-use borrow.Author.Rules.{rules}
 use Rattle.linking.proofs.names.place_of.Given as goal
 
 abbrev pub invariant-loop-j : goal.invariant-loop-j

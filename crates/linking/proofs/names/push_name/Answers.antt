@@ -1,6 +1,5 @@
 use borrow.Author.Tests.{lt-ltb, le-ltb}
 use Rattle.linking.specs.Twins.Linking.{pushed_name}
-use borrow.Author.Rules.{rules}
 use Rattle.linking.proofs.names.push_name.Goals as goal
 
 pub returns-then-used-lt144 : goal.returns-then-used-lt144

@@ -1,5 +1,4 @@
 use Rattle.linking.specs.Twins.Linking.{definition_linked}
-use borrow.Author.Rules.{rules}
 use Rattle.linking.proofs.program.link_definition.Goals as goal
 
 pub returns : goal.returns

@@ -1,8 +1,4 @@
-use mathlib.Core.Path.{◌≡◌}
-use Prim.Native.Nat.{◌-◌, min}
-use Rattle.linking.specs.Twins.Linking.{linked, program_linked, definitions_linked}
 use Rattle.linking.proofs.LinkTurns.{all_left, definitions_turn, definitions_end}
-use borrow.Author.Rules.{rules}
 use Rattle.linking.proofs.program.link_program.Goals as goal
 
 pub loop-j-init : goal.loop-j-init

@@ -1,8 +1,4 @@
-use mathlib.Core.Path.{◌≡◌}
-use Prim.Native.Nat.{◌-◌}
-use Rattle.linking.specs.Twins.Linking.{parameters_named}
 use Rattle.linking.proofs.LinkTurns.{parameters_turn, parameters_end}
-use borrow.Author.Rules.{rules}
 use Rattle.linking.proofs.program.push_parameters.Goals as goal
 
 pub loop-i-preserved : goal.loop-i-preserved

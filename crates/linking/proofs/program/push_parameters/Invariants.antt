@@ -1,8 +1,6 @@
 use mathlib.Core.Path.{◌≡◌}
 use Prim.Native.Nat.{◌-◌}
 use Rattle.linking.specs.Twins.Linking.{parameters_named}
-use Rattle.linking.proofs.LinkTurns.{parameters_turn, parameters_end}
-use borrow.Author.Rules.{rules}
 use Rattle.linking.proofs.program.push_parameters.Given as goal
 
 abbrev pub invariant-loop-i : goal.invariant-loop-i

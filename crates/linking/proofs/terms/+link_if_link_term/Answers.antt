@@ -1,9 +1,5 @@
 use borrow.Author.Tests.{eq-eqb, ne_eqb}
 use Rattle.linking.proofs.LinkTurns.{term_none, term_more, if_by}
-use borrow.Author.Rules.{rules}
-use native.Mathlib.Omega.{arith}
-use Prim.Native.Nat.{ℕ, ◌+◌, ◌<◌}
-use Rattle.linking.proofs.terms.+link_if_link_term.{statement}
 use Rattle.linking.proofs.terms.+link_if_link_term.Goals as goal
 
 pub link_if-returns : goal.link_if-returns

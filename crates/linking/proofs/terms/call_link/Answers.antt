@@ -1,5 +1,4 @@
 use Rattle.linking.specs.Twins.Linking.{call_link}
-use borrow.Author.Rules.{rules}
 use Rattle.linking.proofs.terms.call_link.Goals as goal
 
 pub returns : goal.returns

@@ -1,10 +1,5 @@
-use mathlib.Core.Path.{◌≡◌}
-use Prim.Native.Nat.{◌-◌}
-use lib.ListN.{length}
 use borrow.Author.Tests.{eq-eqb, ne_eqb}
-use Rattle.linking.specs.Twins.Linking.{closing_from}
 use Rattle.linking.proofs.LinkTurns.{closing_turn, closing_end}
-use borrow.Author.Rules.{rules}
 use Rattle.linking.proofs.terms.closing.Goals as goal
 
 pub returns-then-key-eq-CLOSE_LIST : goal.returns-then-key-eq-CLOSE_LIST

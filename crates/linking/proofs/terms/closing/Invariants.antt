@@ -1,10 +1,7 @@
 use mathlib.Core.Path.{◌≡◌}
 use Prim.Native.Nat.{◌-◌}
 use lib.ListN.{length}
-use borrow.Author.Tests.{eq-eqb, ne_eqb}
 use Rattle.linking.specs.Twins.Linking.{closing_from}
-use Rattle.linking.proofs.LinkTurns.{closing_turn, closing_end}
-use borrow.Author.Rules.{rules}
 use Rattle.linking.proofs.terms.closing.Given as goal
 
 abbrev pub invariant-loop-q : goal.invariant-loop-q

@@ -1,6 +1,5 @@
 use borrow.Author.Tests.{eq-eqb, ne_eqb}
 use Rattle.linking.specs.Twins.Linking.{false_names}
-use borrow.Author.Rules.{rules}
 use Rattle.linking.proofs.terms.false_names.Goals as goal
 
 pub returns-then-mark-eq-SAME : goal.returns-then-mark-eq-SAME

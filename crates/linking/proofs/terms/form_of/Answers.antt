@@ -1,6 +1,5 @@
 use borrow.Author.Tests.{eq-eqb, ne_eqb}
 use Rattle.linking.specs.Twins.Linking.{form_of}
-use borrow.Author.Rules.{rules}
 use Rattle.linking.proofs.terms.form_of.Goals as goal
 
 pub returns-then-key-eq-OPEN : goal.returns-then-key-eq-OPEN

@@ -1,9 +1,6 @@
 use mathlib.Core.Path.{◌≡◌}
 use Prim.Native.Nat.{◌-◌, min}
-use borrow.Author.Tests.{eq-eqb, ne_eqb}
 use Rattle.linking.specs.Twins.Linking.{head_of, head_from}
-use Rattle.linking.proofs.LinkTurns.{all_left, head_turn, head_end}
-use borrow.Author.Rules.{rules}
 use Rattle.linking.proofs.terms.head_of.Given as goal
 
 abbrev pub invariant-loop-j : goal.invariant-loop-j

@@ -1,6 +1,5 @@
 use borrow.Author.Tests.{eq-eqb, ne_eqb}
 use Rattle.linking.specs.Twins.Linking.{if_link}
-use borrow.Author.Rules.{rules}
 use Rattle.linking.proofs.terms.if_link.Goals as goal
 
 pub returns-then-key-eq-EQA : goal.returns-then-key-eq-EQA

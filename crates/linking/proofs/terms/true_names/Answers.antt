@@ -1,6 +1,5 @@
 use borrow.Author.Tests.{eq-eqb, ne_eqb}
 use Rattle.linking.specs.Twins.Linking.{true_names}
-use borrow.Author.Rules.{rules}
 use Rattle.linking.proofs.terms.true_names.Goals as goal
 
 pub returns-then-mark-eq-SAME : goal.returns-then-mark-eq-SAME

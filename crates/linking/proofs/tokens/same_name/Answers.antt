@@ -1,6 +1,5 @@
 use borrow.Author.Tests.{eq-eqb, ne_eqb}
 use Rattle.linking.specs.Twins.Linking.{same_name}
-use borrow.Author.Rules.{rules}
 use Rattle.linking.proofs.tokens.same_name.Goals as goal
 
 pub returns-then-kind : goal.returns-then-kind

@@ -1,4 +1,3 @@
-use borrow.Author.Rules.{rules}
 use Rattle.values.specs.Twins.Sizes.{kept_nodes}
 use Rattle.values.proofs.size.kept_nodes.Goals as goal
 

@@ -1,4 +1,3 @@
-use borrow.Author.Rules.{rules}
 use borrow.Author.Tests.{lt-ltb, le-ltb}
 use Rattle.values.specs.Twins.Sizes.{sized_as}
 use Rattle.values.proofs.size.sized.Goals as goal

@@ -1,6 +1,5 @@
 use borrow.Author.Tests.{lt-ltb, le-ltb}
 use Rattle.values.specs.Twins.Values.{entry_at}
-use borrow.Author.Rules.{rules}
 use Rattle.values.proofs.tokens.entry_at.Goals as goal
 
 pub returns-then-i-lt4120 : goal.returns-then-i-lt4120

@@ -1,5 +1,4 @@
 use Rattle.values.proofs.ValueTurns.{cell_over, cell_done}
-use borrow.Author.Rules.{rules}
 use Rattle.values.proofs.tokens.push_cell.Goals as goal
 
 pub returns-then-k-gt65534 : goal.returns-then-k-gt65534

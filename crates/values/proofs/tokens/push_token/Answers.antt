@@ -1,6 +1,5 @@
 use borrow.Author.Tests.{eq-eqb, ne_eqb}
 use Rattle.values.specs.Twins.Values.{token_written}
-use borrow.Author.Rules.{rules}
 use Rattle.values.proofs.tokens.push_token.Goals as goal
 
 pub returns-then-mark-eq-CELL : goal.returns-then-mark-eq-CELL

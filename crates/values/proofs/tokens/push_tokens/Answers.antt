@@ -1,8 +1,4 @@
-use mathlib.Core.Path.{◌≡◌}
-use Prim.Native.Nat.{◌-◌}
-use Rattle.values.specs.Twins.Values.{tokens_written}
 use Rattle.values.proofs.ValueTurns.{tokens_turn, tokens_end}
-use borrow.Author.Rules.{rules}
 use Rattle.values.proofs.tokens.push_tokens.Goals as goal
 
 pub loop-j-preserved : goal.loop-j-preserved

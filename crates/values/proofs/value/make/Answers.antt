@@ -1,6 +1,5 @@
 use native.Mathlib.Omega.{arith}
 use Rattle.values.proofs.ValueLaws.{small_made}
-use borrow.Author.Rules.{rules}
 use Rattle.values.proofs.value.make.Goals as goal
 
 pub returns-then-less-le2 : goal.returns-then-less-le2

@@ -1,6 +1,4 @@
-use native.Mathlib.Omega.{arith}
 use Rattle.values.proofs.ValueLaws.{pair_made_lem, pair_over}
-use borrow.Author.Rules.{rules}
 use Rattle.values.proofs.value.make_pair.Goals as goal
 
 pub returns-in-Done : goal.returns-in-Done

@@ -1,6 +1,5 @@
 use borrow.Author.Tests.{eq-eqb, ne_eqb, lt-ltb, le-ltb}
 use Rattle.values.specs.Twins.Values.{value_at}
-use borrow.Author.Rules.{rules}
 use Rattle.values.proofs.value.value.Goals as goal
 
 pub returns-then-mark-eq-NAME : goal.returns-then-mark-eq-NAME
