@@ -16,6 +16,7 @@ fn main(rt: HostRuntime) {
     let p = read_file(&rt, &err, b"prog.tsg", program);
     let j = read_file(&rt, &err, b"job.txt", job);
     let listed = list_texts(
+        &rt,
         &mut rt.stdout(),
         false,
         part(program, 0, p),

@@ -1,2 +1,4 @@
 pub mod Cleared
 pub mod Shown
+pub mod Taken
+pub mod Whole

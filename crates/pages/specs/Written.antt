@@ -15,8 +15,15 @@ listed program job = (list_left program job (replicate 8194 0) (replicate 17408 
 unfoldable pub listed_bytes : Bool → List ℕ → List ℕ → ℕ
 listed_bytes samples program job = let w = list_left program job (replicate 8194 0) (replicate 17408 0) in length (listed_with samples program job w.cells w.answer)
 
+-- the text itself
+unfoldable pub written_listing : Bool → List ℕ → List ℕ → List ℕ
+written_listing samples program job = let w = list_left program job (replicate 8194 0) (replicate 17408 0) in listed_with samples program job w.cells w.answer
+
 unfoldable pub ran : List ℕ → List ℕ → Ran
 ran program job = (run_left program job (replicate 8194 0) (replicate 4096 0)).answer
 
 unfoldable pub ran_bytes : List ℕ → List ℕ → ℕ
 ran_bytes program job = let w = run_left program job (replicate 8194 0) (replicate 4096 0) in length (ran_text program job w.cells w.answer)
+
+unfoldable pub written_run : List ℕ → List ℕ → List ℕ
+written_run program job = let w = run_left program job (replicate 8194 0) (replicate 4096 0) in ran_text program job w.cells w.answer

@@ -1,6 +1,6 @@
 // "A file that cannot be read counts as empty" (01, "Printing, and cases"): also where a part of it was read before a read failed. Standard error has the
 // file's error, as the system has it.
-ghost use Rattle.std.specs.Prelude.{◌≡◌, ◌-◌, ◌≤◌, length, drop, replicate};
+ghost use Rattle.std.specs.Prelude.{◌≡◌, ◌-◌, ◌≤◌, ◌⊎◌, length, take, drop, replicate, IfSome};
 
 use std::io::{Input, Read};
 use std::rt::Files;
@@ -16,7 +16,8 @@ pub const JOB: usize = 8193;
 // The bytes up to the end of the file, or as many as there is room for: how many they are, or 0 where a read fails, as standard error then
 // says of the path.
 fn read_whole<R: Read>(reader: &mut R, err: &impl Print, path: &[u8], buf: &mut [u8]) -> usize
-    ensures { result ≤ length buf.old }
+    ensures bound { result ≤ length buf.old }
+    ensures bytes { IfSome (R.remaining reader.old) (λ xs. (result ≡ 0) ⊎ (take result buf.new ≡ take (length buf.old) xs)) }
 {
     match read_full(reader, buf) {
         Ok(n) => n,

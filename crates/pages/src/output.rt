@@ -1,20 +1,27 @@
 // What the entries answer, written to standard output page by page. No contract can say what is written; these say how much was taken.
-ghost use Rattle.std.specs.Prelude.{true, ◌≡◌, ◌≤◌, min, length};
+ghost use Rattle.std.specs.Prelude.{true, ◌≡◌, ◌<◌, ◌≤◌, min, length, take, false, IfOk, IsSome};
 ghost use Rattle.std.specs.Io.{WritesAtMost};
+ghost use Rattle.std.specs.Io.KnownBytes.{Appends, WriteAppends};
+ghost use Rattle.window.specs.Windows.{windowed};
 ghost use Rattle.resolve.specs.ListAnswer.{list_left};
 ghost use Rattle.print.specs.Twins.ListedText.{listed_with};
 ghost use Rattle.print.specs.Twins.RanText.{ran_text};
-ghost use Rattle.pages.specs.Written.{listed, listed_bytes, ran, ran_bytes};
+ghost use Rattle.pages.specs.Written.{listed, listed_bytes, written_listing, ran, ran_bytes, written_run};
 
 use crate::page::{list_page, run_page};
 use cells::part::part;
 use print::first::{Listed, list_first, list_first_sampled};
 use resolve::{list, run};
+use std::io;
 use std::io::{ErrorKind, Write};
-use std::{io, thread};
+use std::rt::Clock;
+use std::time::Duration;
 
-// How many writes in a row may take nothing before writing counts as failed: a reader may stand still for some seconds.
-const TRIES: usize = 10000000;
+// How many writes in a row may take nothing before writing counts as failed, and how many milliseconds lie between two of them: a reader may stand still
+// for some seconds.
+const TRIES: usize = 10000;
+
+const PAUSE: u64 = 1;
 
 // How many bytes were taken, and whether that is the whole text. Where it is not, the error says why.
 #[derive(Drop)]
@@ -46,8 +53,10 @@ fn may_try_again(error: &io::Error) -> bool {
 }
 
 // One write that takes something, behind as many that take nothing as are waited for.
-fn write_some<W: Write>(out: &mut W, bytes: &[u8]) -> io::Result<usize>
-    ensures { WritesAtMost result bytes.now }
+fn write_some<W: Write>(clock: &impl Clock, out: &mut W, bytes: &[u8]) -> io::Result<usize>
+    ensures bound { WritesAtMost result bytes.now }
+    ensures some { IfOk result (λ n. 0 < n) }
+    ensures taken { WriteAppends (W.contents out.old) (W.contents out.new) result bytes.now }
 {
     let mut last = io::Error::from(ErrorKind::WouldBlock);
     for _ in 0..TRIES {
@@ -59,18 +68,20 @@ fn write_some<W: Write>(out: &mut W, bytes: &[u8]) -> io::Result<usize>
         if !may_try_again(&last) {
             return Err(last);
         }
-        thread::yield_now();
+        clock.sleep(Duration::from_millis(PAUSE));
     }
     Err(last)
 }
 
 // Writes the bytes, on after each part that is taken: how many were taken, all of them where nothing failed.
-fn write_bytes<W: Write>(out: &mut W, bytes: &[u8]) -> Written
-    ensures { result.bytes ≤ length bytes.now }
+fn write_bytes<W: Write>(clock: &impl Clock, out: &mut W, bytes: &[u8]) -> Written
+    ensures bound { result.bytes ≤ length bytes.now }
+    ensures why { result.bytes < length bytes.now → IsSome result.error }
+    ensures taken { Appends (W.contents out.old) (W.contents out.new) (take result.bytes bytes.now) }
 {
     let mut done: usize = 0;
     while done < bytes.len() {
-        match write_some(out, &bytes[done..]) {
+        match write_some(clock, out, &bytes[done..]) {
             Ok(taken) => done += taken,
             Err(error) => {
                 return Written {
@@ -89,16 +100,19 @@ fn write_bytes<W: Write>(out: &mut W, bytes: &[u8]) -> Written
 }
 
 // The same of the first n bytes of a page.
-fn write_page<W: Write>(out: &mut W, page: &[u8; 65536], n: usize) -> Written
-    ensures { result.bytes ≤ n }
+fn write_page<W: Write>(clock: &impl Clock, out: &mut W, page: &[u8; 65536], n: usize) -> Written
+    ensures bound { result.bytes ≤ n }
+    ensures why { n ≤ 65536 → result.bytes < n → IsSome result.error }
+    ensures taken { Appends (W.contents out.old) (W.contents out.new) (take result.bytes page.now) }
 {
-    write_bytes(out, part(page, 0, n))
+    write_bytes(clock, out, part(page, 0, n))
 }
 
 // Page after page of a listing, whose first page is there: `first` bytes of it are text. The lines have at most 16,384 nodes, of at most 40
 // bytes each with what is printed around them, and 256 numbers: 64 pages hold them. Samples have no more nodes than their lines, and names of no more
 // bytes than symbols: 128 pages hold both.
 fn write_list<W: Write>(
+    clock: &impl Clock,
     out: &mut W,
     samples: bool,
     program: &[u8],
@@ -109,12 +123,14 @@ fn write_list<W: Write>(
     page: &mut [u8; 65536],
 ) -> Written
     requires { first ≡ min 65536 (length (listed_with samples program.now job.now cells.now answer)) }
-    ensures { result.whole ≡ true → result.bytes ≡ length (listed_with samples program.now job.now cells.now answer) }
+    ensures whole { result.whole ≡ true → result.bytes ≡ length (listed_with samples program.now job.now cells.now answer) }
+    ensures why { result.whole ≡ false → IsSome result.error }
+    ensures taken { let text = listed_with samples program.now job.now cells.now answer in page.old ≡ windowed 65536 0 text → Appends (W.contents out.old) (W.contents out.new) (take result.bytes text) }
 {
     let mut n = first;
     let mut bytes: usize = 0;
     for k in 0..128u32 {
-        let taken = write_page(out, page, n);
+        let taken = write_page(clock, out, page, n);
         bytes += taken.bytes;
         if taken.bytes < n {
             return Written {
@@ -141,17 +157,20 @@ fn write_list<W: Write>(
 
 // A value of 4,096 nodes has at most 2,048 symbols of 17 bytes and 2,047 pairs of 8: the line fits one page.
 fn write_run<W: Write>(
+    clock: &impl Clock,
     out: &mut W,
     program: &[u8],
     job: &[u8],
     answer: run_answers::run::Answer,
     cells: &[u16],
 ) -> Written
-    ensures { result.whole ≡ true → result.bytes ≡ length (ran_text program.now job.now cells.now answer) }
+    ensures whole { result.whole ≡ true → result.bytes ≡ length (ran_text program.now job.now cells.now answer) }
+    ensures why { result.whole ≡ false → IsSome result.error }
+    ensures taken { Appends (W.contents out.old) (W.contents out.new) (take result.bytes (ran_text program.now job.now cells.now answer)) }
 {
     let mut page = [0u8; 65536];
     let n = run_page(program, job, answer, cells, 0, &mut page);
-    let taken = write_page(out, &page, n);
+    let taken = write_page(clock, out, &page, n);
     if taken.bytes < n {
         return Written {
             bytes: taken.bytes,
@@ -182,7 +201,7 @@ fn first_page(
     answer: &mut [u16],
     page: &mut [u8; 65536],
 ) -> Listed
-    ensures { let w = list_left program.now job.now work.old answer.old in (result.answer ≡ w.answer) × (answer.new ≡ w.cells) × (result.bytes ≡ min 65536 (length (listed_with samples program.now job.now w.cells w.answer))) }
+    ensures { let w = list_left program.now job.now work.old answer.old in (result.answer ≡ w.answer) × (answer.new ≡ w.cells) × (result.bytes ≡ min 65536 (length (listed_with samples program.now job.now w.cells w.answer))) × (page.new ≡ windowed 65536 0 (listed_with samples program.now job.now w.cells w.answer)) }
 {
     if samples {
         return list_first_sampled(program, job, work, answer, page);
@@ -191,8 +210,16 @@ fn first_page(
 }
 
 // Writes the listing of the two texts, with samples where they are called for (02, request 2).
-pub fn list_texts<W: Write>(out: &mut W, samples: bool, program: &[u8], job: &[u8]) -> ListWritten
-    ensures { (result.answer ≡ listed program.now job.now) × (result.written.whole ≡ true → result.written.bytes ≡ listed_bytes samples program.now job.now) }
+pub fn list_texts<W: Write>(
+    clock: &impl Clock,
+    out: &mut W,
+    samples: bool,
+    program: &[u8],
+    job: &[u8],
+) -> ListWritten
+    ensures whole { (result.answer ≡ listed program.now job.now) × (result.written.whole ≡ true → result.written.bytes ≡ listed_bytes samples program.now job.now) }
+    ensures why { result.written.whole ≡ false → IsSome result.written.error }
+    ensures taken { Appends (W.contents out.old) (W.contents out.new) (take result.written.bytes (written_listing samples program.now job.now)) }
 {
     let mut work_space = [0u16; list::WORK];
     let mut answer_space = [0u16; list::ANSWER];
@@ -202,6 +229,7 @@ pub fn list_texts<W: Write>(out: &mut W, samples: bool, program: &[u8], job: &[u
     let listed = first_page(samples, program, job, work, answer, &mut page);
     let said = listed.answer;
     let written = write_list(
+        clock,
         out,
         samples,
         program,
@@ -218,15 +246,22 @@ pub fn list_texts<W: Write>(out: &mut W, samples: bool, program: &[u8], job: &[u
 }
 
 // Writes the line of the program's run on the job's inputs.
-pub fn run_texts<W: Write>(out: &mut W, program: &[u8], job: &[u8]) -> RunWritten
-    ensures { (result.answer ≡ ran program.now job.now) × (result.written.whole ≡ true → result.written.bytes ≡ ran_bytes program.now job.now) }
+pub fn run_texts<W: Write>(
+    clock: &impl Clock,
+    out: &mut W,
+    program: &[u8],
+    job: &[u8],
+) -> RunWritten
+    ensures whole { (result.answer ≡ ran program.now job.now) × (result.written.whole ≡ true → result.written.bytes ≡ ran_bytes program.now job.now) }
+    ensures why { result.written.whole ≡ false → IsSome result.written.error }
+    ensures taken { Appends (W.contents out.old) (W.contents out.new) (take result.written.bytes (written_run program.now job.now)) }
 {
     let mut work_space = [0u16; run::WORK];
     let mut answer_space = [0u16; run::ANSWER];
     let work: &mut [u16] = &mut work_space;
     let answer: &mut [u16] = &mut answer_space;
     let said = run::run(program, job, work, answer);
-    let written = write_run(out, program, job, said, answer);
+    let written = write_run(clock, out, program, job, said, answer);
     RunWritten {
         written: written,
         answer: said,

@@ -89,7 +89,7 @@ fn list_named(
     job: &[u8],
 ) -> io::Result<()> {
     let err = rt.stderr();
-    let listed = list_texts(&mut rt.stdout(), samples, program, job);
+    let listed = list_texts(rt, &mut rt.stdout(), samples, program, job);
     let answer = listed.answer;
     let written = listed.written;
     report(&err, written)?;
@@ -104,7 +104,7 @@ fn run_named(
     job: &[u8],
 ) -> io::Result<()> {
     let err = rt.stderr();
-    let ran = run_texts(&mut rt.stdout(), program, job);
+    let ran = run_texts(rt, &mut rt.stdout(), program, job);
     let answer = ran.answer;
     let written = ran.written;
     report(&err, written)?;
