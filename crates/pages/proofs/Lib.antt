@@ -1,4 +1,3 @@
-pub mod Cleared
 pub mod Shown
 pub mod Taken
 pub mod Whole
