@@ -4,5 +4,5 @@
 #![tactic(auto)]
 
 pub mod lists;
-pub mod runs;
+pub mod program_runs;
 pub mod sampled;

@@ -3,5 +3,5 @@
 #![tactic(auto)]
 
 mod lists;
-mod runs;
+mod program_runs;
 mod sampled;

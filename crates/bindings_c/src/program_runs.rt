@@ -23,7 +23,7 @@ pub extern "C" fn raugvite_run(
 ) -> usize
     ensures { (let w = run_left program.now job.now work.old answer.old in (result ≡ number_of w.answer) × (work.new ≡ w.work) × (answer.new ≡ w.cells) × (said.new ≡ said_after (number_of w.answer) (said_of w.answer) said.old)) × ((s : SProg) (t : SJob) → reading runner program.now job.now ≡ accepted s t → Answered (run_left program.now job.now work.old answer.old).answer → StoredRun (prog s) t.steps.num (inputs t) (run_left program.now job.now work.old answer.old).answer answer.new) }
 {
-    bindings::runs::raugvite_run(program, job, work, answer, said)
+    bindings::program_runs::raugvite_run(program, job, work, answer, said)
 }
 
 #[unsafe(no_mangle)]
@@ -38,19 +38,19 @@ pub extern "C" fn raugvite_print_run(
 ) -> usize
     ensures { (let text = ran_text program.now job.now cells.now (answer_from number said.now) in (result ≡ min (length out.old) (length text - from)) × (out.new ≡ windowed (length out.old) from text)) × (RunTold program.now job.now number said.now cells.now → ran_text program.now job.now cells.now (answer_from number said.now) ≡ run_text program.now job.now) }
 {
-    bindings::runs::raugvite_print_run(program, job, number, said, cells, from, out)
+    bindings::program_runs::raugvite_print_run(program, job, number, said, cells, from, out)
 }
 
 #[unsafe(no_mangle)]
 pub extern "C" fn raugvite_run_work() -> usize
     ensures { result ≡ 8194 }
 {
-    bindings::runs::raugvite_run_work()
+    bindings::program_runs::raugvite_run_work()
 }
 
 #[unsafe(no_mangle)]
 pub extern "C" fn raugvite_run_answer() -> usize
     ensures { result ≡ 4096 }
 {
-    bindings::runs::raugvite_run_answer()
+    bindings::program_runs::raugvite_run_answer()
 }

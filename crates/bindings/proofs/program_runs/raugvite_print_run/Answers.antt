@@ -3,7 +3,7 @@ use Rattle.run_answers.specs.declared.run.Answer.{Answer}
 use Rattle.print.specs.Twins.RanText.{ran_text}
 use Rattle.bindings.proofs.ToldLaws.{run_told}
 use Rattle.print.proofs.ListTurns.{same_text}
-use Rattle.bindings.proofs.runs.raugvite_print_run.Goals as goal
+use Rattle.bindings.proofs.program_runs.raugvite_print_run.Goals as goal
 
 pub returns : goal.returns
 returns c =
