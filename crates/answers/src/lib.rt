@@ -3,5 +3,4 @@
 #![tactic(auto)]
 
 pub mod heading;
-pub mod letters;
 pub mod list;

@@ -1,10 +1,9 @@
 // What the listing of two texts answers, and its number and values.
 ghost use Rattle.std.specs.Prelude.{◌≡◌};
-ghost use Rattle.answers.specs.declared.list.Answer.TheVariants.{Program};
 ghost use Rattle.answers.specs.ListEnding.{unstopped_as};
-ghost use Rattle.answers.specs.ListNumbers.{word_number, word_cut, number_of, letter_of, offset_of, cut_of, lines_of, transitions_of};
+ghost use Rattle.answers.specs.ListNumbers.{word_number, word_cut, number_of, cut_of, lines_of, transitions_of};
 
-use crate::letters::{JOB, NEITHER, PROGRAM, SHORT};
+use refusals::refusal::Refused;
 
 // The word of the first line.
 #[derive(Clone, Copy)]
@@ -16,32 +15,16 @@ pub enum Word {
     Stop23,
 }
 
-// The listing's first word, how many lines stand in the answer storage and how many transitions were made; the refusal of a text (1 to 13)
-// with its offset; 20.
+// The listing's first word, how many lines stand in the answer storage and how many transitions were made.
 #[derive(Clone, Copy)]
-pub enum Answer {
-    Listed {
-        word: Word,
-        lines: usize,
-        count: usize,
-    },
-    Program {
-        number: usize,
-        offset: usize,
-    },
-    Job {
-        number: usize,
-        offset: usize,
-    },
-    Short,
+pub struct Listed {
+    pub word: Word,
+    pub lines: usize,
+    pub count: usize,
 }
 
-// "p" the program: what its refusal is answered as, with 1 to 13 and the offset.
-pub fn of_program(number: usize, offset: usize) -> Answer
-    ensures { result ≡ Program number offset }
-{
-    Answer::Program { number, offset }
-}
+// A listing; the refusal of a text (1 to 13) with its offset; 20.
+pub type Answer = Result<Listed, Refused>;
 
 // "A walk that isn't stopped ends as cut if a configuration N deep is no end, else as whole."
 pub fn unstopped(cut: bool) -> Word
@@ -82,52 +65,8 @@ pub fn number_of(a: Answer) -> usize
     ensures { result ≡ number_of a }
 {
     match a {
-        Answer::Listed {
-            word,
-            lines: _,
-            count: _,
-        } => word_number(word),
-        Answer::Program { number, offset: _ } => number,
-        Answer::Job { number, offset: _ } => number,
-        Answer::Short => SHORT,
-    }
-}
-
-// The letter of a refusal.
-pub fn letter_of(a: Answer) -> usize
-    ensures { result ≡ letter_of a }
-{
-    match a {
-        Answer::Listed {
-            word: _,
-            lines: _,
-            count: _,
-        } => 0,
-        Answer::Program {
-            number: _,
-            offset: _,
-        } => PROGRAM,
-        Answer::Job {
-            number: _,
-            offset: _,
-        } => JOB,
-        Answer::Short => NEITHER,
-    }
-}
-
-// The offset of a refusal.
-pub fn offset_of(a: Answer) -> usize
-    ensures { result ≡ offset_of a }
-{
-    match a {
-        Answer::Listed {
-            word: _,
-            lines: _,
-            count: _,
-        } => 0,
-        Answer::Program { number: _, offset } => offset,
-        Answer::Job { number: _, offset } => offset,
-        Answer::Short => 0,
+        Ok(listed) => word_number(listed.word),
+        Err(refused) => refused.number(),
     }
 }
 
@@ -136,20 +75,8 @@ pub fn cut_of(a: Answer) -> usize
     ensures { result ≡ cut_of a }
 {
     match a {
-        Answer::Listed {
-            word,
-            lines: _,
-            count: _,
-        } => word_cut(word),
-        Answer::Program {
-            number: _,
-            offset: _,
-        } => 0,
-        Answer::Job {
-            number: _,
-            offset: _,
-        } => 0,
-        Answer::Short => 0,
+        Ok(listed) => word_cut(listed.word),
+        Err(_) => 0,
     }
 }
 
@@ -158,20 +85,8 @@ pub fn lines_of(a: Answer) -> usize
     ensures { result ≡ lines_of a }
 {
     match a {
-        Answer::Listed {
-            word: _,
-            lines,
-            count: _,
-        } => lines,
-        Answer::Program {
-            number: _,
-            offset: _,
-        } => 0,
-        Answer::Job {
-            number: _,
-            offset: _,
-        } => 0,
-        Answer::Short => 0,
+        Ok(listed) => listed.lines,
+        Err(_) => 0,
     }
 }
 
@@ -180,19 +95,7 @@ pub fn transitions_of(a: Answer) -> usize
     ensures { result ≡ transitions_of a }
 {
     match a {
-        Answer::Listed {
-            word: _,
-            lines: _,
-            count,
-        } => count,
-        Answer::Program {
-            number: _,
-            offset: _,
-        } => 0,
-        Answer::Job {
-            number: _,
-            offset: _,
-        } => 0,
-        Answer::Short => 0,
+        Ok(listed) => listed.count,
+        Err(_) => 0,
     }
 }

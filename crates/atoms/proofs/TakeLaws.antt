@@ -8,6 +8,8 @@ use mathlib.Core.Logic.{inl, inr}
 use native.Mathlib.Omega.{arith}
 use lib.Dec.{eqb}
 use lib.ListN.{length}
+use Rattle.std.specs.Prelude.{Ok, Err}
+use Rattle.restrictions.specs.declared.failure.Failure.TheVariants.{Over}
 use Rattle.expressions.specs.Expression.{AtomicExp, sym, avar, Exp}
 use Rattle.expressions.specs.Substitution.{apply, apply_atomic, id_subst, subst_a}
 use Rattle.expressions.specs.Restriction.{Restriction, same_atomic, simplify, add, subst_restriction}
@@ -27,7 +29,6 @@ use Rattle.restrictions.proofs.RestrictionLaws.{Answers, bind_cells_means, add_c
 use Rattle.heap.specs.Twins.Contracted.{Stores}
 use Rattle.heap.specs.Twins.Moving.{Left, left, grown_stores, bound_cell, bound_restriction, leaf_from, leaf_bound, restricted_left, contracted}
 use Rattle.heap.specs.declared.configuration.Configuration.{Configuration as InCells}
-use Rattle.heap.specs.declared.configuration.Moved.TheVariants.{On, Over}
 use Rattle.runs.proofs.RunLaws.{Below, below_self}
 use Rattle.heap.proofs.HeapLaws.{filling_a}
 use Rattle.linking.specs.Twins.Linked.{TermLinked}
@@ -53,7 +54,7 @@ pair_id P = ap (λ (c : State). record { con = c; neqs = P.neqs }) (inv (state_i
 
 module _ (p : Prog) (bodies : ℕ → ℕ) (code : List ℕ) (h : List ℕ) (used : ℕ) where
   -- the storages hold P at the term t
-  module _ {names : List Param} {t : Term} {past k : ℕ} {P : CRPair state} (w : Left) (d : InCells) (on : w.answer ≡ On d) (x : HoldsPair w.heap w.frame w.q d names P)
+  module _ {names : List Param} {t : Term} {past k : ℕ} {P : CRPair state} (w : Left) (d : InCells) (on : w.answer ≡ Ok d) (x : HoldsPair w.heap w.frame w.q d names P)
       (same : Below used w.heap h) (grown : used ≤ d.used) (most : d.used ≤ used + 4 + nodes_state P) (linked : TermLinked p bodies code names d.place t past) (fresh : d.counter ≡ k) where
     on_leads : Leads p bodies code h used (some (record { cr = P; term = t; fresh = k })) w
     on_leads = leads_to p bodies code (record { cr = P; term = t; fresh = k }) w (inr (record {
@@ -66,7 +67,7 @@ module _ (p : Prog) (bodies : ℕ → ℕ) (code : List ℕ) (h : List ℕ) (use
     }))
 
   -- there is no room for what has more than 4,097 nodes
-  over_leads : (K : Configuration) (w : Left) → w.answer ≡ Over → 4097 < nodes_state K.cr → Leads p bodies code h used (some K) w
+  over_leads : (K : Configuration) (w : Left) → w.answer ≡ Err Over → 4097 < nodes_state K.cr → Leads p bodies code h used (some K) w
   over_leads K w e l = leads_to p bodies code K w (inl (e, l))
 
 module _ (p : Prog) (bodies : ℕ → ℕ) (code : List ℕ) {h f q : List ℕ} {c : InCells} {names : List Param} {P : CRPair state} (x : HoldsPair h f q c names P) (small : nodes_state P ≤ 4097)
@@ -82,8 +83,8 @@ module _ (p : Prog) (bodies : ℕ → ℕ) (code : List ℕ) {h f q : List ℕ} 
   reached Q = record { cr = Q; term = t; fresh = k }
 
   -- sides that are the same
-  same_leads : Leads p bodies code h c.used (some (reached (applied_pair id_subst P))) ((left (On c) h f q))
-  same_leads = on_leads p bodies code h c.used (left (On c) h f q) c refl (subst (λ (Q : CRPair state). HoldsPair h f q c names Q) (pair_id P) x) below_self (omega arith) (omega arith) linked fresh
+  same_leads : Leads p bodies code h c.used (some (reached (applied_pair id_subst P))) ((left (Ok c) h f q))
+  same_leads = on_leads p bodies code h c.used (left (Ok c) h f q) c refl (subst (λ (Q : CRPair state). HoldsPair h f q c names Q) (pair_id P) x) below_self (omega arith) (omega arith) linked fresh
 
   module _ (m : ℕ) (z : AtomicExp) where
     -- the entries bound, behind non-equalities that are
@@ -129,7 +130,7 @@ module _ (p : Prog) (bodies : ℕ → ℕ) (code : List ℕ) {h f q : List ℕ} 
           Leads p bodies code h c.used (configuration t k (apply_pair id_subst P o)) ((restricted_left c h f w))
       go none w a = none_leads p bodies code _
       go (some out) w a =
-          rw a.0 (on_leads p bodies code h c.used (left (On (counted_as (length out))) h f w.cells) (counted_as (length out)) refl
+          rw a.0 (on_leads p bodies code h c.used (left (Ok (counted_as (length out))) h f w.cells) (counted_as (length out)) refl
           (subst (λ (Q : CRPair state). HoldsPair h f w.cells (counted_as (length out)) names Q) (pair_id (restricted_pair out P)) (pair_restricted x (counted_as (length out)) out w.cells refl refl refl refl refl a.1 (a.4 ∙ x.q_size))) below_self (omega arith) (omega arith) linked fresh)
 
 -- THE LAWS of the two branches

@@ -2,12 +2,11 @@
 ghost use Rattle.std.specs.Prelude.{◌≡◌};
 ghost use Rattle.atoms.specs.Twins.Atoms.{first_cell, atom_at, sides_at};
 
-use cells::cell;
 use heap::configuration::Configuration;
 use linking::code::{CELL, NAME, link_at};
 use values::names::names_from;
 
-#[derive(Drop)]
+#[derive(Clone, Copy)]
 pub struct Sides {
     pub left: u16,
     pub right: u16,
@@ -20,7 +19,7 @@ fn first_cell(heap: &[u16; 65535], frame: &[u16; 12360], i: usize) -> u16
     if 4120 <= i {
         return 0;
     }
-    let from = cell::wide(frame[3 * i + 1]);
+    let from = usize::from(frame[3 * i + 1]);
     if 65535 <= from {
         return 0;
     }
@@ -38,15 +37,11 @@ pub fn atom_at(
     ensures { result ≡ atom_at code.now heap.now frame.now base i }
 {
     let l = link_at(code, i);
-    let mark = l.mark;
-    let first = l.first;
-    if mark == CELL {
-        return first;
+    match l.mark {
+        CELL => l.first,
+        NAME => first_cell(heap, frame, base.min(4120) + usize::from(l.first)),
+        _ => 0,
     }
-    if mark == NAME {
-        return first_cell(heap, frame, cell::least(base, 4120) + cell::wide(first));
-    }
-    0
 }
 
 // The values of the two sides of the `eqa?` at the configuration's place: the first begins four tokens on, the second behind it.
@@ -59,13 +54,9 @@ pub fn sides_at(
     ensures { result ≡ sides_at code.now heap.now frame.now c }
 {
     let base = names_from(c);
-    let i = cell::least(c.place, 4097) + 4;
-    let l = link_at(code, i);
-    let past = cell::wide(l.past);
+    let i = c.place.min(4097) + 4;
+    let past = usize::from(link_at(code, i).past);
     let left = atom_at(code, heap, frame, base, i);
     let right = atom_at(code, heap, frame, base, past);
-    Sides {
-        left: left,
-        right: right,
-    }
+    Sides { left, right }
 }

@@ -1,28 +1,13 @@
 // The transition to a branch of an `eqa?`. A branch that contradicts is never taken.
 ghost use Rattle.std.specs.Prelude.{◌≡◌};
 ghost use Rattle.heap.specs.Twins.Moving.{left as leaves};
-ghost use Rattle.atoms.specs.Twins.Taking.{placed_at, taken_by, equal_taken, unequal_taken};
+ghost use Rattle.atoms.specs.Twins.Taking.{taken_by, equal_taken, unequal_taken};
 
-use cells::cell;
 use heap::apply::contract;
-use heap::configuration::{Configuration, Moved};
+use heap::configuration::Configuration;
 use linking::code::link_at;
+use restrictions::failure::Failure;
 use sets::contraction::{Contraction, equality_contraction};
-
-// The configuration at another place.
-fn placed(c: Configuration, place: usize) -> Configuration
-    ensures { result ≡ placed_at place c }
-{
-    Configuration {
-        inputs: c.inputs,
-        outputs: c.outputs,
-        entries: c.entries,
-        used: c.used,
-        neqs: c.neqs,
-        place: place,
-        counter: c.counter,
-    }
-}
 
 // The contraction applied, at a branch's place.
 fn take(
@@ -32,11 +17,10 @@ fn take(
     frame: &mut [u16; 12360],
     q: &mut [u16; 4096],
     c: Configuration,
-) -> Moved
+) -> Result<Configuration, Failure>
     ensures { leaves result heap.new frame.new q.new ≡ taken_by k place c heap.old frame.old q.old }
 {
-    let d = placed(c, place);
-    contract(k, heap, frame, q, d)
+    contract(k, heap, frame, q, Configuration { place, ..c })
 }
 
 // "the true branch binds the left side to the right if left is a variable, else right to left"
@@ -48,11 +32,10 @@ pub fn take_equal(
     c: Configuration,
     left: u16,
     right: u16,
-) -> Moved
+) -> Result<Configuration, Failure>
     ensures { leaves result heap.new frame.new q.new ≡ equal_taken code.now c left right heap.old frame.old q.old }
 {
-    let l = link_at(code, c.place);
-    let place = cell::wide(l.first);
+    let place = usize::from(link_at(code, c.place).first);
     let k = equality_contraction(left, right);
     take(k, place, heap, frame, q, c)
 }
@@ -66,14 +49,10 @@ pub fn take_unequal(
     c: Configuration,
     left: u16,
     right: u16,
-) -> Moved
+) -> Result<Configuration, Failure>
     ensures { leaves result heap.new frame.new q.new ≡ unequal_taken code.now c left right heap.old frame.old q.old }
 {
-    let l = link_at(code, c.place);
-    let place = cell::wide(l.second);
-    let k = Contraction::NonEqual {
-        left: left,
-        right: right,
-    };
+    let place = usize::from(link_at(code, c.place).second);
+    let k = Contraction::NonEqual { left, right };
     take(k, place, heap, frame, q, c)
 }

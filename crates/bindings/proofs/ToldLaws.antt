@@ -7,8 +7,8 @@ use Rattle.semantics.specs.Answer.{limits, inputs}
 use Rattle.telling.specs.Numbers.{said_after}
 use Rattle.answers.specs.ListNumbers as lists
 use Rattle.run_answers.specs.RunNumbers as runs
-use Rattle.answers.specs.declared.list.Answer.{Answer as ListAnswer}
-use Rattle.run_answers.specs.declared.run.Answer.{Answer as RunAnswer}
+use Rattle.answers.specs.ListNumbers.{Answer as ListAnswer}
+use Rattle.run_answers.specs.RunNumbers.{Answer as RunAnswer}
 use Rattle.telling.proofs.ListBack.{list_back}
 use Rattle.telling.proofs.RunBack.{run_back}
 use Rattle.resolve.specs.ListAnswer.{list_left}

@@ -46,8 +46,7 @@ pub extern "C" fn raugvite_list_print(
     ensures { (let w = list_left program.now job.now work.old answer.old in let text = listed_text program.now job.now w.cells w.answer in (result ≡ number_of w.answer) × (work.new ≡ w.work) × (answer.new ≡ w.cells) × (said.new ≡ said_after (number_of w.answer) (said_of w.answer ++ (min (length out.old) (length text) ∷ [])) said.old) × (out.new ≡ windowed (length out.old) 0 text)) × (too_short work.old answer.old ≡ false → (let w = list_left program.now job.now work.old answer.old in listed_text program.now job.now w.cells w.answer ≡ list_text program.now job.now)) × ((s : SProg) (t : SJob) → reading lister program.now job.now ≡ accepted s t → Answered (list_left program.now job.now work.old answer.old).answer → StoredListing (prog s) (class t) t.steps.num (limits t) (list_left program.now job.now work.old answer.old).answer answer.new) }
 {
     let listed = list_first(program, job, work, answer, out);
-    let a = listed.answer;
-    tell_printed(a, listed.bytes, said)
+    tell_printed(listed.answer, listed.bytes, said)
 }
 
 // `print::list::print_list` of the answer with this number and what `said` holds beside it.

@@ -18,18 +18,18 @@ ghost use Rattle.bindings.specs.Told.{ListTold};
 
 use print::first::list_first_sampled;
 use print::list::print_sampled;
-use sampling::line::{SAMPLE, Sampled, sample_line};
+use sampling::line::{SAMPLE, Sampled, Unsampled, sample_line};
 use telling::list::{answer_from, tell_printed};
 use telling::sample::tell_sample;
 
 // A line's output has a node at least, so that no cells tell that there is no such line.
-fn tell_sampled(a: Sampled, said: &mut [usize]) -> usize
+fn tell_sampled(a: Result<Sampled, Unsampled>, said: &mut [usize]) -> usize
     ensures { (result ≡ sampled_number a) × (said.new ≡ said_after (sampled_number a) (sampled_said a) said.old) }
 {
     match a {
-        Sampled::Done { ins, out } => tell_sample(false, ins, out, said),
-        Sampled::Absent => tell_sample(false, 0, 0, said),
-        Sampled::Short => tell_sample(true, 0, 0, said),
+        Ok(Sampled { ins, out }) => tell_sample(false, ins, out, said),
+        Err(Unsampled::Absent) => tell_sample(false, 0, 0, said),
+        Err(Unsampled::Short) => tell_sample(true, 0, 0, said),
     }
 }
 
@@ -60,8 +60,7 @@ pub extern "C" fn raugvite_list_print_sampled(
     ensures { (let w = list_left program.now job.now work.old answer.old in let text = sampled_listed program.now job.now w.cells w.answer in (result ≡ number_of w.answer) × (work.new ≡ w.work) × (answer.new ≡ w.cells) × (said.new ≡ said_after (number_of w.answer) (said_of w.answer ++ (min (length out.old) (length text) ∷ [])) said.old) × (out.new ≡ windowed (length out.old) 0 text)) × (too_short work.old answer.old ≡ false → (let w = list_left program.now job.now work.old answer.old in sampled_listed program.now job.now w.cells w.answer ≡ sampled_text program.now job.now)) × ((s : SProg) (t : SJob) → reading lister program.now job.now ≡ accepted s t → Answered (list_left program.now job.now work.old answer.old).answer → StoredListing (prog s) (class t) t.steps.num (limits t) (list_left program.now job.now work.old answer.old).answer answer.new) }
 {
     let listed = list_first_sampled(program, job, work, answer, out);
-    let a = listed.answer;
-    tell_printed(a, listed.bytes, said)
+    tell_printed(listed.answer, listed.bytes, said)
 }
 
 // `print::list::print_sampled` of the answer with this number and what `said` holds beside it.

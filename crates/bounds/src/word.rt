@@ -26,8 +26,5 @@ pub fn is_number_length(n: usize) -> bool
 pub fn is_number(v: u16) -> bool
     ensures { result ≡ (leb 1 v && leb v 999) }
 {
-    if v < 1 {
-        return false;
-    }
-    v <= 999
+    1 <= v && v <= 999
 }

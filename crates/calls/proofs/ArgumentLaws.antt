@@ -2,6 +2,7 @@
 use Prim.Native.Nat.{ℕ, suc, ◌+◌, ◌-◌, ◌*◌, ◌≤◌, ◌<◌, min}
 use mathlib.Core.Path.{◌≡◌, refl, ap₂, ◌∙◌}
 use mathlib.Core.List.{List, ◌∷◌}
+use Rattle.std.specs.Prelude.{Some, None}
 use mathlib.Core.Logic.{◌⊎◌, inl, inr}
 use native.Mathlib.Omega.{arith}
 use native.Mathlib.Decide.{dec_le}
@@ -22,10 +23,8 @@ use Rattle.constants.proofs.ConstantLaws.{Constants, constants_below}
 use Rattle.linking.specs.Twins.Code.{link_at}
 use Rattle.linking.specs.Twins.Linked.{ExpsLinked, none_linked, more_linked}
 use Rattle.linking.specs.Twins.Places.{env_of}
-use Rattle.values.specs.Twins.Values.{ValueLeft, value_at}
-use Rattle.calls.specs.Twins.Arguments.{ArgueLeft, argue_left, argument_at, arguments_at}
-use Rattle.values.specs.declared.value.Valued.TheVariants.{At, Over as ValuedOver}
-use Rattle.calls.specs.declared.arguments.Argued.TheVariants.{Done, Over}
+use Rattle.values.specs.Twins.Values.{ValueLeft, valued, value_at}
+use Rattle.calls.specs.Twins.Arguments.{tally, ArgueLeft, argue_left, argument_at, arguments_at}
 use Rattle.values.proofs.ValueLaws.{Typed, past_linked, AllKnown, ValuedAs}
 use Rattle.values.proofs.RoomLaws.{value_outcome}
 use Rattle.values.proofs.RoomLaws as values
@@ -33,7 +32,7 @@ use Rattle.values.proofs.RoomLaws as values
 -- what is left behind the entries of trees
 pub record Entered (h f : List ℕ) (used entries sum : ℕ) (ts : List Exp) (w : ArgueLeft) : Type 0 where
   pub now : ℕ
-  pub done : w.answer ≡ Done (entries + length ts) now (sum + nodes_all ts)
+  pub done : w.answer ≡ Some (tally (entries + length ts) now (sum + nodes_all ts))
   pub grown : used ≤ now
   pub most : now ≤ used + nodes_all ts
   pub fits : now ≤ 65535
@@ -48,21 +47,21 @@ below_then x y l = record { same = λ j m. x.same j (omega arith) ∙ y.same j m
 
 module _ (code : List ℕ) (base : ℕ) where
   -- the entry of a value that there is room for
-  one_entered : (entries used sum i from to now kn : ℕ) (h f g : List ℕ) (t : Exp) → (value_at code f base used i h).answer ≡ At from to now kn → (value_at code f base used i h).heap ≡ g →
+  one_entered : (entries used sum i from to now kn : ℕ) (h f g : List ℕ) (t : Exp) → (value_at code f base used i h).answer ≡ Some (valued from to now kn) → (value_at code f base used i h).heap ≡ g →
       to - from ≡ nodes t → sum + nodes t ≤ 4097 → entries < 4120 →
-      argument_at code base entries used sum i h f ≡ argue_left (Done (entries + 1) now (sum + nodes t)) g (entry entries kn from to f)
+      argument_at code base entries used sum i h f ≡ argue_left (Some (tally (entries + 1) now (sum + nodes t))) g (entry entries kn from to f)
   unfolding argument_at pushed
   one_entered entries used sum i from to now kn h f g t e p s l m =
       let c : min sum 4098 + min (nodes t) 4098 ≡ sum + nodes t = omega arith in
       rw (e, p, s, lt-leb 4120 entries m, c, le-ltb 4097 (sum + nodes t) l)
 
-  over_entered : (entries used sum i : ℕ) (h f : List ℕ) → (value_at code f base used i h).answer ≡ ValuedOver → (argument_at code base entries used sum i h f).answer ≡ Over
+  over_entered : (entries used sum i : ℕ) (h f : List ℕ) → (value_at code f base used i h).answer ≡ None → (argument_at code base entries used sum i h f).answer ≡ None
   unfolding argument_at
   over_entered entries used sum i h f e = rw e
 
   -- "over 4,096 nodes"
-  many_entered : (entries used sum i from to now kn : ℕ) (h f : List ℕ) (t : Exp) → (value_at code f base used i h).answer ≡ At from to now kn → to - from ≡ nodes t → 4097 < sum + nodes t → entries < 4120 →
-      (argument_at code base entries used sum i h f).answer ≡ Over
+  many_entered : (entries used sum i from to now kn : ℕ) (h f : List ℕ) (t : Exp) → (value_at code f base used i h).answer ≡ Some (valued from to now kn) → to - from ≡ nodes t → 4097 < sum + nodes t → entries < 4120 →
+      (argument_at code base entries used sum i h f).answer ≡ None
   unfolding argument_at pushed
   many_entered entries used sum i from to now kn h f t e s l m =
       let c : 4097 < min sum 4098 + min (nodes t) 4098 = omega arith in
@@ -88,7 +87,7 @@ module _ (code : List ℕ) (base : ℕ) where
       joined : (w : ArgueLeft) → Entered g (entry entries kn from to f) now (entries + 1) (sum + nodes t) ts w → Entered h f used entries sum (t ∷ ts) w
       joined w r = record {
         now = r.now;
-        done = r.done ∙ ap₂ (λ (x y : ℕ). Done x r.now y) (omega arith) (omega arith);
+        done = r.done ∙ ap₂ (λ (x y : ℕ). Some (tally x r.now y)) (omega arith) (omega arith);
         grown = omega (arith, r.grown);
         most = omega (arith, r.most);
         fits = r.fits;
@@ -102,7 +101,7 @@ module _ (code : List ℕ) (base : ℕ) where
     -- no room, or more than 4,096 nodes; else an entry for each
     abbrev pub Outcome : List ℕ → List ℕ → ℕ → ℕ → ℕ → List Exp → ArgueLeft → Type 0
     Outcome h f used entries sum ts w =
-        ((w.answer ≡ Over) × ((65535 < used + nodes_all ts) ⊎ (4097 < sum + nodes_all ts))) ⊎ (Entered h f used entries sum ts w × (sum + nodes_all ts ≤ 4097))
+        ((w.answer ≡ None) × ((65535 < used + nodes_all ts) ⊎ (4097 < sum + nodes_all ts))) ⊎ (Entered h f used entries sum ts w × (sum + nodes_all ts ≤ 4097))
 
     module _ (h f : List ℕ) (used entries sum i j n : ℕ) (t : Exp) (ts : List Exp) (held : Held h used f base vs) (few : base + length vs ≤ 4120) (behind : base + length vs ≤ entries) (room : entries < 4120)
         (lf : length f ≡ 12360) (past : (link_at code i).past ≡ j)
@@ -114,11 +113,11 @@ module _ (code : List ℕ) (base : ℕ) where
       abbrev value : ValueLeft
       value = value_at code f base used i h
 
-      over_first : (argument_at code base entries used sum i h f).answer ≡ Over → all.answer ≡ Over
+      over_first : (argument_at code base entries used sum i h f).answer ≡ None → all.answer ≡ None
       unfolding arguments_at
       over_first e = rw e
 
-      on : (e k m : ℕ) (g f1 : List ℕ) → argument_at code base entries used sum i h f ≡ argue_left (Done e k m) g f1 → all ≡ arguments_at code base n e k m j g f1
+      on : (e k m : ℕ) (g f1 : List ℕ) → argument_at code base entries used sum i h f ≡ argue_left (Some (tally e k m)) g f1 → all ≡ arguments_at code base n e k m j g f1
       unfolding arguments_at
       on e k m g f1 p = rw (p, past)
 
@@ -153,7 +152,7 @@ module _ (code : List ℕ) (base : ℕ) where
         inr (
           record {
             now = used;
-            done = ap₂ (λ (x y : ℕ). Done x used y) (omega arith) (omega arith);
+            done = ap₂ (λ (x y : ℕ). Some (tally x used y)) (omega arith) (omega arith);
             grown = omega arith;
             most = omega arith;
             fits = fit;

@@ -8,6 +8,8 @@ use native.Mathlib.Omega.{arith}
 use lib.ListN.{length}
 use lib.Seq.{length-sets}
 use borrow.Author.Tests.{le-ltb}
+use Rattle.std.specs.Prelude.{Ok, Err}
+use Rattle.restrictions.specs.declared.failure.Failure.TheVariants.{Over}
 use Rattle.expressions.specs.Expression.{Exp, nodes_all}
 use Rattle.expressions.specs.Substitution.{Substitution, apply_all}
 use Rattle.language.specs.Program.{Param}
@@ -16,7 +18,6 @@ use Rattle.runs.specs.Twins.Runs.{cells_at}
 use Rattle.heap.specs.Twins.Entries.{moved_down, moved_entries}
 use Rattle.heap.specs.Twins.Moving.{Move}
 use Rattle.heap.specs.declared.configuration.Configuration.{Configuration}
-use Rattle.heap.specs.declared.configuration.Moved.TheVariants.{On, Over as MovedOver}
 use Rattle.runs.proofs.RunLaws.{Below, below_self, below_sets}
 use Rattle.heap.proofs.FrameLaws.{Held, held_front, moved_means}
 use Rattle.heap.proofs.NodeLaws.{held_nodes}
@@ -38,7 +39,7 @@ length_applied s (c ∷ cs) = ap suc (length_applied s cs)
 -- a configuration in a body
 pub record Called (h f : List ℕ) (base : ℕ) (ios ts : List Exp) (c : Configuration) (body : ℕ) (w : Move) : Type 0 where
   pub now : ℕ
-  pub on : w.answer ≡ On (record { inputs = c.inputs; outputs = c.outputs; entries = base + length ts; used = now; neqs = c.neqs; place = body; counter = c.counter })
+  pub on : w.answer ≡ Ok (record { inputs = c.inputs; outputs = c.outputs; entries = base + length ts; used = now; neqs = c.neqs; place = body; counter = c.counter })
   pub grown : c.used ≤ now
   pub most : now ≤ c.used + nodes_all ts
   pub fits : now ≤ 65535
@@ -90,7 +91,7 @@ module _ (code h f : List ℕ) (base : ℕ) (c : Configuration) (ios : List Exp)
   module _ (sc : List Param) (vs : List Exp) (typed : Typed sc vs) (held : Held h c.used f base vs) (names : base + length vs ≤ c.entries) (lh : length h ≡ 65535) (fit : c.used ≤ 65535) (constants : Constants code h c.used) where
     abbrev pub Outcome : ℕ → List Exp → Type 0
     Outcome body ts =
-        (((called_to code base c h f).answer ≡ MovedOver) × ((65535 < c.used + nodes_all ts) ⊎ (4097 < sum + nodes_all ts))) ⊎
+        (((called_to code base c h f).answer ≡ Err Over) × ((65535 < c.used + nodes_all ts) ⊎ (4097 < sum + nodes_all ts))) ⊎
         (Called h f base ios ts c body (called_to code base c h f) × (sum + nodes_all ts ≤ 4097))
 
     -- THE LAW of a call
@@ -101,7 +102,7 @@ module _ (code h f : List ℕ) (base : ℕ) (c : Configuration) (ios : List Exp)
         rw (called_argued p b e l) (go a (arguments_outcome code base sc vs typed ls kn h f c.used c.entries sum constants held names room lf lh fit l))
       where
         go : (a : ArgueLeft) → let ts = apply_all (subst_of_env (env_of sc vs)) cs in arguments.Outcome code base sc vs typed h f c.used c.entries sum ts a →
-            (((argued c base (length cs) body a.answer a.heap a.frame).answer ≡ MovedOver) × ((65535 < c.used + nodes_all ts) ⊎ (4097 < sum + nodes_all ts))) ⊎
+            (((argued c base (length cs) body a.answer a.heap a.frame).answer ≡ Err Over) × ((65535 < c.used + nodes_all ts) ⊎ (4097 < sum + nodes_all ts))) ⊎
             (Called h f base ios ts c body (argued c base (length cs) body a.answer a.heap a.frame) × (sum + nodes_all ts ≤ 4097))
         go a (inl (o, r)) = inl (rw o, r)
         go a (inr (x, r)) = inr (into_body (length cs) body (apply_all (subst_of_env (env_of sc vs)) cs) (length_applied (subst_of_env (env_of sc vs)) cs) room a x, r)

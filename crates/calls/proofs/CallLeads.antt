@@ -9,6 +9,8 @@ use native.Mathlib.Omega.{arith}
 use native.Mathlib.Decide.{dec_le}
 use lib.ListN.{length, length-append}
 use borrow.Author.Tests.{le-ltb}
+use Rattle.std.specs.Prelude.{Err}
+use Rattle.restrictions.specs.declared.failure.Failure.TheVariants.{Over}
 use Rattle.expressions.specs.Expression.{Exp, nodes_all}
 use Rattle.expressions.specs.Substitution.{Substitution, apply, apply_atomic, apply_all}
 use Rattle.expressions.specs.Contraction.{CRPair}
@@ -19,7 +21,6 @@ use Rattle.semantics.specs.Configuration.{ExpEnv, subst_of_env, state, with_env,
 use Rattle.semantics.proofs.Scopes.{WellScoped, Covers, scoped_call}
 use Rattle.heap.specs.Twins.Moving.{Left, left}
 use Rattle.heap.specs.declared.configuration.Configuration.{Configuration as InCells}
-use Rattle.heap.specs.declared.configuration.Moved.TheVariants.{Over}
 use Rattle.heap.proofs.FrameLaws.{Held}
 use Rattle.heap.proofs.PartLaws.{nodes_joined}
 use Rattle.linking.specs.Twins.Code.{link, link_at}
@@ -106,7 +107,7 @@ module _ (p : Prog) (bodies : ℕ → ℕ) (code : List ℕ) (linked : ProgramLi
 
     abbrev Out : Substitution → Type 0
     Out s =
-        (((called_to code base c h f).answer ≡ Over) × ((65535 < c.used + nodes_all (apply_all s ds)) ⊎ (4097 < kept + nodes_all (apply_all s ds)))) ⊎
+        (((called_to code base c h f).answer ≡ Err Over) × ((65535 < c.used + nodes_all (apply_all s ds)) ⊎ (4097 < kept + nodes_all (apply_all s ds)))) ⊎
         (Called h f base (ends K.cr) (apply_all s ds) c (bodies g) (called_to code base c h f) × (kept + nodes_all (apply_all s ds) ≤ 4097))
 
     outcome : Out σ
@@ -157,7 +158,7 @@ module _ (p : Prog) (bodies : ℕ → ℕ) (code : List ℕ) (linked : ProgramLi
     pub call_leads : Leads p bodies code h c.used (some (behind g ds)) after
     call_leads = leads_to p bodies code (behind g ds) after (go outcome)
       where
-        go : Out σ → ((after.answer ≡ Over) × (4097 < nodes_state (behind g ds).cr)) ⊎ Arrives p bodies code h c.used (behind g ds) after
+        go : Out σ → ((after.answer ≡ Err Over) × (4097 < nodes_state (behind g ds).cr)) ⊎ Arrives p bodies code h c.used (behind g ds) after
         go (inl (o, inl r)) = inl (o, omega (arith, behind_nodes))
         go (inl (o, inr r)) = inl (o, omega (arith, behind_nodes))
         go (inr (w, l)) = inr (arrives w)

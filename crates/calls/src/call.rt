@@ -5,10 +5,10 @@ ghost use Rattle.heap.specs.Twins.Moving.{moved};
 ghost use Rattle.calls.specs.Twins.Calls.{in_body, called_to};
 
 use crate::arguments::{Argued, arguments};
-use cells::cell;
-use heap::configuration::{Configuration, Moved};
+use heap::configuration::Configuration;
 use heap::entry;
 use linking::code::link_at;
+use restrictions::failure::Failure;
 use values::size::kept_nodes;
 
 // The configuration in a body, with n names in reach.
@@ -16,13 +16,10 @@ fn in_body(c: Configuration, base: usize, n: usize, used: usize, body: usize) ->
     ensures { result ≡ in_body c base n used body }
 {
     Configuration {
-        inputs: c.inputs,
-        outputs: c.outputs,
-        entries: cell::least(base, 4120) + cell::least(n, 4120),
-        used: used,
-        neqs: c.neqs,
+        entries: base.min(4120) + n.min(4120),
+        used,
         place: body,
-        counter: c.counter,
+        ..c
     }
 }
 
@@ -32,24 +29,18 @@ pub fn call(
     frame: &mut [u16; 12360],
     base: usize,
     c: Configuration,
-) -> Moved
+) -> Result<Configuration, Failure>
     ensures { moved result heap.new frame.new ≡ called_to code.now base c heap.old frame.old }
 {
     let l = link_at(code, c.place);
-    let n = l.first as usize;
-    let body = l.second as usize;
-    let kept = kept_nodes(frame, base, c.neqs);
-    let i = cell::least(c.place, 4097) + 4;
-    let a = arguments(code, heap, frame, base, c.entries, c.used, kept, i, n);
-    match a {
-        Argued::Done {
-            entries: _,
-            used,
-            nodes: _,
-        } => {
-            entry::move_entries(frame, c.entries, n, base);
-            Moved::On(in_body(c, base, n, used, body))
-        }
-        Argued::Over => Moved::Over,
-    }
+    let n = usize::from(l.first);
+    let so_far = Argued {
+        entries: c.entries,
+        used: c.used,
+        nodes: kept_nodes(frame, base, c.neqs),
+    };
+    let i = c.place.min(4097) + 4;
+    let a = arguments(code, heap, frame, base, so_far, i, n).ok_or(Failure::Over)?;
+    entry::move_entries(frame, c.entries, n, base);
+    Ok(in_body(c, base, n, a.used, usize::from(l.second)))
 }

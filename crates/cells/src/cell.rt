@@ -5,22 +5,21 @@ ghost use Rattle.std.specs.Prelude.{◌≡◌, min, ◌-◌, ◌%◌, ◌≤◌,
 pub fn least(a: usize, b: usize) -> usize
     ensures { result ≡ min a b }
 {
-    if a < b { a } else { b }
+    a.min(b)
 }
 
 // The difference of two numbers, and 0 below it.
 pub fn less(a: usize, b: usize) -> usize
     ensures { result ≡ a - b }
 {
-    if a < b { 0 } else { a - b }
+    a.saturating_sub(b)
 }
 
 // A number in a cell: the largest that a cell holds, for what is larger.
 pub fn narrow(x: usize) -> u16
     ensures { result ≡ min x 65535 }
 {
-    let y = least(x, 65535);
-    y as u16
+    x.min(65535) as u16
 }
 
 // The low part of a number, which a cell holds.
@@ -34,21 +33,21 @@ pub fn low(x: usize) -> u16
 pub fn wide(x: u16) -> usize
     ensures { (result ≡ x) × (result ≤ 65535) }
 {
-    x as usize
+    usize::from(x)
 }
 
 // The cell at a place, and 0 past the end.
 pub fn cell(s: &[u16], at: usize) -> u16
     ensures { result ≡ get_or s.now at 0 }
 {
-    if at < s.len() { s[at] } else { 0 }
+    s.get(at).copied().unwrap_or(0)
 }
 
 // The byte at a place, and 0 past the end.
 pub fn byte(text: &[u8], at: usize) -> u8
     ensures { result ≡ get_or text.now at 0 }
 {
-    if at < text.len() { text[at] } else { 0 }
+    text.get(at).copied().unwrap_or(0)
 }
 
 // A store, and nothing past the end.

@@ -1,5 +1,5 @@
 -- What is found of a part depends on the names in reach and on nothing that stands in the cells behind them. So a walk may be lent cells in
--- which the part before it left its own names (specs/twins/CheckAt.antt, Kept).
+-- which the part before it left its own names (specs/Twins/CheckAt.antt, Kept).
 use Prim.Native.Nat.{ℕ, zero, suc, ◌+◌, ◌≤◌, ◌<◌}
 use mathlib.Core.Path.{◌≡◌, refl, ap, subst, ◌∙◌, sym as inv}
 use mathlib.Core.Bool.{Bool, true, false, cond}
@@ -11,10 +11,10 @@ use lib.Seq.{get_or-set_same, get_or-set_other}
 use borrow.Author.Tests.{ltb-true, ltb-false}
 use Rattle.language.specs.Bytes.{txt}
 use Rattle.language.specs.Tokens.{aname, tag, key_of}
-use Rattle.verdicts.specs.declared.found.Verdict.{Verdict}
 use Rattle.verdicts.specs.declared.found.Walked.{Walked}
 use Rattle.checker.specs.declared.check.Names.{Names}
 use Rattle.checker.specs.Twins.CheckAt.{Kept, Put, names, push, ahead, pick, pick_term, is_named, binding_at, branched, leaf_at, pair_at, exp_at, ea_at, arg_at, args_at, call_at, eqa_at, consp_at, if_at, form_at, term_at}
+use Rattle.verdicts.specs.Twins.Found.{Verdict}
 
 pub kept_all : (u : ℕ) (a : List ℕ) → Kept u a a
 kept_all u a = record { size = refl; same = λ j l. refl }

@@ -20,7 +20,7 @@ pub fn met_variable(n: u16, code: u16) -> u16
 pub fn one_if(code: u16, x: u16) -> u16
     ensures { result ≡ one_if code x }
 {
-    if code == x { 1 } else { 0 }
+    u16::from(code == x)
 }
 
 // The cell with y in the place of x.

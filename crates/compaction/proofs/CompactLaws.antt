@@ -7,13 +7,11 @@ use native.Mathlib.Decide.{dec_le}
 use lib.ListN.{length, get_or}
 use lib.Seq.{sets, length-sets}
 use borrow.Author.Tests.{le-leb, lt-leb, le-ltb}
+use Rattle.std.specs.Prelude.{Option, Some}
 use Rattle.expressions.specs.Expression.{Exp, nodes, nodes_all}
 use Rattle.sets.specs.Twins.Fill.{FillAnswer}
-use Rattle.sets.specs.declared.fill.Filled.TheVariants.{Done}
 use Rattle.runs.specs.Twins.Runs.{cells_at, run, appended}
 use Rattle.heap.specs.Twins.Entries.{entry, entry_known, entry_from, entry_to, PushAnswer, push_answer, pushed}
-use Rattle.heap.specs.declared.entry.Pushed.{Pushed}
-use Rattle.heap.specs.declared.entry.Pushed.TheVariants.{Done as PushedDone}
 use Rattle.heap.specs.Twins.Contracted.{Stores, stores, onward_from}
 use Rattle.compaction.specs.Twins.Compacting.{relocated_entry, relocated_from, cells_moved, Compaction, moved_stores, compacted}
 use Rattle.runs.proofs.RunLaws.{Below, below_self, below_sets, length_cells_at}
@@ -23,16 +21,16 @@ use Rattle.heap.proofs.FrameLaws.{Behind, entry_length, entry_before, entry_behi
 
 -- an entry that is there, put anew
 module _ (i known from to : ℕ) (f : List ℕ) (l : i < 4120) where
-  pushed_fits : pushed i known from to f ≡ push_answer (PushedDone (i + 1)) (entry i known from to f)
+  pushed_fits : pushed i known from to f ≡ push_answer (Some (i + 1)) (entry i known from to f)
   unfolding pushed
   pushed_fits = rw (lt-leb 4120 i l)
 
-  pub pushed_there : (g : List ℕ) (r : Pushed) → push_answer r g ≡ pushed i known from to f → g ≡ entry i known from to f
+  pub pushed_there : (g : List ℕ) (r : Option ℕ) → push_answer r g ≡ pushed i known from to f → g ≡ entry i known from to f
   pushed_there g r e = ap (λ (p : PushAnswer). p.frame) (e ∙ pushed_fits)
 
 -- turns of `relocate_entries`
 module _ (i end floor down used : ℕ) (h f : List ℕ) where
-  pub relocate_end : end ≤ i → relocated_from (end - i) i floor down used h f ≡ stores (Done used) h f
+  pub relocate_end : end ≤ i → relocated_from (end - i) i floor down used h f ≡ stores (Some used) h f
   unfolding relocated_from
   relocate_end l = let n : end - i ≡ 0 = omega arith in rw n
 
@@ -57,7 +55,7 @@ placed_below (moves q x) b l m = moves q (holds_below x b m)
 -- what relocating the n entries from i on leaves
 pub record Relocated (h f : List ℕ) (used floor down i n : ℕ) (ts : List Exp) (w : Stores) : Type 0 where
   pub now : ℕ
-  pub done : w.answer ≡ Done now
+  pub done : w.answer ≡ Some now
   pub grown : used ≤ now
   pub most : now ≤ used + nodes_all ts
   pub same : Below used w.heap h
@@ -69,7 +67,7 @@ pub record Relocated (h f : List ℕ) (used floor down i n : ℕ) (ts : List Exp
 
 module _ (h f : List ℕ) (used floor down i : ℕ) (whole : length h ≡ 65535) (above : floor + down ≤ used) (in_frame : 3 * (i + 1) ≤ length f) (t : Exp)
     (held : Holds h used (entry_from f i) (entry_to f i) t) (known : KnownOf (entry_known f i) t) (room : used + nodes t ≤ 65535) where
-  stayed : entry_to f i ≤ floor → Relocated h f used floor down i 1 (t ∷ []) (stores (Done used) h f)
+  stayed : entry_to f i ≤ floor → Relocated h f used floor down i 1 (t ∷ []) (stores (Some used) h f)
   stayed l = record {
     now = used;
     done = refl;
@@ -84,7 +82,7 @@ module _ (h f : List ℕ) (used floor down i : ℕ) (whole : length h ≡ 65535)
   }
 
   moved : (k : ℕ) (w : FillAnswer) → k ≡ used + nodes t → Grown h used t w →
-      Relocated h f used floor down i 1 (t ∷ []) (stores (Done k) w.cells (entry i (entry_known f i) (used - down) (k - down) f))
+      Relocated h f used floor down i 1 (t ∷ []) (stores (Some k) w.cells (entry i (entry_known f i) (used - down) (k - down) f))
   moved k w e g =
       let p : entry_from (entry i (entry_known f i) (used - down) (k - down) f) i ≡ used - down = entry_from_lem i (entry_known f i) (used - down) (k - down) f in_frame ∙ omega arith in
       let q : entry_to (entry i (entry_known f i) (used - down) (k - down) f) i ≡ k - down = entry_to_lem i (entry_known f i) (used - down) (k - down) f in_frame ∙ omega arith in

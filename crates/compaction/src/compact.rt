@@ -1,31 +1,14 @@
 // Compaction: the values in use put together, one behind the other from a place on. No spare storage: they are written behind what is used, and then
 // all moved down.
 ghost use Rattle.std.specs.Prelude.{◌≡◌, ◌-◌, ◌<◌, ◌≤◌};
-ghost use Rattle.sets.specs.Twins.Fill.{fill_answer};
 ghost use Rattle.heap.specs.Twins.Contracted.{stores};
-ghost use Rattle.compaction.specs.Twins.Compacting.{relocated_frame, relocated_entry, relocated_entries, cells_moved, compaction, compacted};
+ghost use Rattle.compaction.specs.Twins.Compacting.{relocated_entry, relocated_entries, cells_moved, compaction, compacted};
 
-use cells::cell;
 use heap::entry;
 use runs::run;
-use sets::fill::Filled;
 
-// The entry i with the range from `used` to the answer, `down` cells lower: where it will stand.
-fn relocated(frame: &mut [u16; 12360], i: usize, down: usize, used: usize, w: Filled) -> Filled
-    requires { i < 4120 }
-    ensures { fill_answer result frame.new ≡ relocated_frame i down used w frame.old }
-{
-    match w {
-        Filled::Done(k) => {
-            let known = frame[3 * i];
-            entry::push_entry(frame, i, known, cell::less(used, down), cell::less(k, down));
-            Filled::Done(k)
-        }
-        Filled::Over => Filled::Over,
-    }
-}
-
-// The value of the entry i once more behind what is used, if it does not lie below `floor`. Done: what is used then.
+// The value of the entry i once more behind what is used, if it does not lie below `floor`, and the entry with its range `down` cells lower: where it will
+// stand. What is used then.
 fn relocate_entry(
     heap: &mut [u16; 65535],
     frame: &mut [u16; 12360],
@@ -33,17 +16,25 @@ fn relocate_entry(
     floor: usize,
     down: usize,
     used: usize,
-) -> Filled
+) -> Option<usize>
     requires { i < 4120 }
     ensures { stores result heap.new frame.new ≡ relocated_entry i floor down used heap.old frame.old }
 {
-    let from = cell::wide(frame[3 * i + 1]);
-    let to = cell::wide(frame[3 * i + 2]);
+    let from = usize::from(frame[3 * i + 1]);
+    let to = usize::from(frame[3 * i + 2]);
     if to <= floor {
-        return Filled::Done(used);
+        return Some(used);
     }
-    let w = run::append(heap, from, to, used);
-    relocated(frame, i, down, used, w)
+    let now = run::append(heap, from, to, used)?;
+    let known = frame[3 * i];
+    entry::push_entry(
+        frame,
+        i,
+        known,
+        used.saturating_sub(down),
+        now.saturating_sub(down),
+    );
+    Some(now)
 }
 
 // The same for the first n entries.
@@ -54,25 +45,15 @@ fn relocate_entries(
     floor: usize,
     down: usize,
     used: usize,
-) -> Filled
+) -> Option<usize>
     ensures { stores result heap.new frame.new ≡ relocated_entries n floor down used heap.old frame.old }
 {
-    let end = cell::least(n, entry::ENTRIES);
+    let end = n.min(entry::ENTRIES);
     let mut now = used;
-    let mut i: usize = 0;
-    while i < end {
-        let w = relocate_entry(heap, frame, i, floor, down, now);
-        match w {
-            Filled::Done(k) => {
-                now = k;
-                i += 1;
-            }
-            Filled::Over => {
-                return Filled::Over;
-            }
-        }
+    for i in 0..end {
+        now = relocate_entry(heap, frame, i, floor, down, now)?;
     }
-    Filled::Done(now)
+    Some(now)
 }
 
 // The cells from `from` up to `to` again at `at`, which lies before them.
@@ -80,12 +61,9 @@ fn move_cells(heap: &mut [u16; 65535], from: usize, to: usize, at: usize)
     requires { at ≤ from }
     ensures { heap.new ≡ cells_moved from to at heap.old }
 {
-    let end = cell::least(to, run::SIZE);
-    let size = cell::less(end, from);
-    let mut i: usize = 0;
-    while i < size {
-        heap[at + i] = heap[from + i];
-        i += 1;
+    let end = to.min(run::SIZE);
+    if from < end {
+        heap.copy_within(from..end, at);
     }
 }
 
@@ -104,12 +82,9 @@ pub fn compact(
         return used;
     }
     let down = used - floor;
-    let w = relocate_entries(heap, frame, n, floor, down, used);
-    match w {
-        Filled::Done(k) => {
-            move_cells(heap, used, k, floor);
-            cell::less(k, down)
-        }
-        Filled::Over => used,
-    }
+    let Some(k) = relocate_entries(heap, frame, n, floor, down, used) else {
+        return used;
+    };
+    move_cells(heap, used, k, floor);
+    k.saturating_sub(down)
 }

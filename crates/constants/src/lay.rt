@@ -4,7 +4,6 @@ ghost use Rattle.std.proofs.lemmas.List.Edits.{sets};
 ghost use Rattle.constants.specs.Twins.Laying.{named_in, cells_of, starts_at, fits_at, is_constant, laid, laid_one, constants_left, constants_laid};
 
 use crate::table::enter;
-use cells::cell;
 use linking::code::{CELL, NAME, NOTHING, TOKENS, link_at};
 use sets::tree::PAIR;
 
@@ -19,13 +18,11 @@ pub struct Laid {
 fn is_named(code: &[u16; 24582], i: usize, to: usize) -> bool
     ensures { result ≡ named_in code.now (to - i) i }
 {
-    let mut j = i;
-    while j < to {
+    for j in i..to {
         let l = link_at(code, j);
         if l.mark == NAME {
             return true;
         }
-        j += 1;
     }
     false
 }
@@ -36,14 +33,11 @@ fn starts_at(code: &[u16; 24582], i: usize) -> bool
 {
     let l = link_at(code, i);
     if l.mark == CELL {
-        return if l.first == PAIR { false } else { true };
+        return l.first != PAIR;
     }
     if l.mark == NOTHING {
-        let m = link_at(code, cell::least(i, 4097) + 1);
-        if m.mark == CELL {
-            return m.first == PAIR;
-        }
-        return false;
+        let m = link_at(code, i.min(4097) + 1);
+        return m.mark == CELL && m.first == PAIR;
     }
     false
 }
@@ -52,30 +46,17 @@ fn starts_at(code: &[u16; 24582], i: usize) -> bool
 fn fits_at(s: Laid, i: usize, past: usize, limit: usize) -> bool
     ensures { result ≡ fits_at s i past limit }
 {
-    if past <= i {
-        return false;
-    }
-    if limit < past - i {
-        return false;
-    }
-    cell::least(s.used, 65535) <= limit - (past - i)
+    i < past && past - i <= limit && s.used.min(65535) <= limit - (past - i)
 }
 
 fn is_constant(code: &[u16; 24582], i: usize, s: Laid, limit: usize) -> bool
     ensures { result ≡ is_constant code.now i s limit }
 {
-    if i < s.skip {
+    if i < s.skip || !starts_at(code, i) {
         return false;
     }
-    if starts_at(code, i) {
-        let l = link_at(code, i);
-        let past = l.past as usize;
-        if fits_at(s, i, past, limit) {
-            return if is_named(code, i, past) { false } else { true };
-        }
-        return false;
-    }
-    false
+    let past = usize::from(link_at(code, i).past);
+    fits_at(s, i, past, limit) && !is_named(code, i, past)
 }
 
 // The cells of the tokens from i up to `to`, at k: what is used then.
@@ -84,16 +65,12 @@ fn lay(code: &[u16; 24582], heap: &mut [u16; 65535], i: usize, to: usize, k: usi
     ensures { (result ≡ k + length (cells_of code.now (to - i) i)) × (heap.new ≡ sets heap.old k (cells_of code.now (to - i) i)) }
 {
     let mut n = k;
-    let mut j = i;
-    while j < to {
+    for j in i..to {
         let l = link_at(code, j);
         if l.mark == CELL {
             heap[n] = l.first;
             n += 1;
-            j += 1;
-            continue;
         }
-        j += 1;
     }
     n
 }
@@ -110,8 +87,7 @@ fn lay_one(
     ensures { laid result code.new heap.new ≡ laid_one i s limit code.old heap.old }
 {
     if is_constant(code, i, s, limit) {
-        let l = link_at(code, i);
-        let past = l.past as usize;
+        let past = usize::from(link_at(code, i).past);
         let end = lay(code, heap, i, past, s.used);
         enter(code, i, s.used, end);
         return Laid {
@@ -132,16 +108,11 @@ pub fn lay_constants(
 ) -> usize
     ensures { constants_left result code.new heap.new ≡ constants_laid count used code.old heap.old }
 {
-    let end = cell::least(count, TOKENS);
-    let limit = cell::least(cell::least(used, 65535) + 4097, 65535);
-    let mut s = Laid {
-        used: used,
-        skip: 0,
-    };
-    let mut i: usize = 0;
-    while i < end {
+    let end = count.min(TOKENS);
+    let limit = (used.min(65535) + 4097).min(65535);
+    let mut s = Laid { used, skip: 0 };
+    for i in 0..end {
         s = lay_one(code, heap, i, s, limit);
-        i += 1;
     }
     s.used
 }

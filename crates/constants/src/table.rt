@@ -6,7 +6,7 @@ use cells::cell;
 use linking::code::TOKENS;
 
 // Where the value of the expression that starts at a token stands in the heap; an empty range where it has names, or no expression starts there.
-#[derive(Drop)]
+#[derive(Clone, Copy)]
 pub struct Constant {
     pub from: usize,
     pub to: usize,
@@ -17,11 +17,9 @@ pub fn constant_at(code: &[u16; 24582], i: usize) -> Constant
     ensures { result ≡ constant_at code.now i }
 {
     if i < TOKENS {
-        let from = code[16388 + 2 * i];
-        let to = code[16389 + 2 * i];
         return Constant {
-            from: cell::wide(from),
-            to: cell::wide(to),
+            from: usize::from(code[16388 + 2 * i]),
+            to: usize::from(code[16389 + 2 * i]),
         };
     }
     Constant { from: 0, to: 0 }
@@ -32,9 +30,7 @@ pub fn enter(code: &mut [u16; 24582], i: usize, from: usize, to: usize)
     ensures { code.new ≡ entered i from to code.old }
 {
     if i < TOKENS {
-        let a = cell::narrow(from);
-        let b = cell::narrow(to);
-        code[16388 + 2 * i] = a;
-        code[16389 + 2 * i] = b;
+        code[16388 + 2 * i] = cell::narrow(from);
+        code[16389 + 2 * i] = cell::narrow(to);
     }
 }

@@ -9,9 +9,8 @@
 // storages are full of garbage before each.
 #![tactic(auto)]
 
-ghost use Rattle.std.specs.Prelude.{◌≤◌, min, length};
+ghost use Rattle.std.specs.Prelude.{◌<◌, ◌≤◌, length};
 
-use cells::cell::byte;
 use cells::part::part;
 use print::list::{print_list, print_sampled};
 use print::ran::print_run;
@@ -23,96 +22,86 @@ use window::sink::{opened, put_text, written};
 // Room for the text of cases, and for what is printed of one.
 const PAGE: usize = 65536;
 
-// Where the line that `from` stands in ends.
-fn line_end(text: &[u8], from: usize) -> usize
-    ensures { (min from (length text.now) ≤ result) × (result ≤ length text.now) }
+// What the lent storages are full of.
+const GARBAGE: u16 = 43981;
+
+// The first line, and what stands behind it.
+fn first_line(text: &[u8]) -> (&[u8], &[u8])
+    ensures within { length result.1.now ≤ length text.now }
+    ensures past { 0 < length text.now → length result.1.now < length text.now }
 {
-    let mut i = from;
-    while i < text.len() {
-        if text[i] == b'\n' {
-            return i;
-        }
-        i += 1;
+    match text.iter().position(|b| *b == b'\n') {
+        Some(end) => (&text[..end], &text[end + 1..]),
+        None => (text, &[]),
     }
-    text.len()
+}
+
+fn write_line(to: &impl Print, line: &[u8]) -> io::Result<()> {
+    to.write_all(line)?;
+    to.write_all(b"\n")
 }
 
 fn run_case(to: &impl Print, program: &[u8], job: &[u8]) -> io::Result<()> {
-    let mut work_space = [43981u16; run::WORK];
-    let mut answer_space = [43981u16; run::ANSWER];
-    let work: &mut [u16] = &mut work_space;
-    let answer: &mut [u16] = &mut answer_space;
+    let mut work = [GARBAGE; run::WORK];
+    let mut cells = [GARBAGE; run::ANSWER];
     let mut page = [0u8; PAGE];
-    let out: &mut [u8] = &mut page;
-    let said = run::run(program, job, work, answer);
-    let n = print_run(program, job, said, answer, 0, out);
-    to.write_all(part(out, 0, n))
+    let answer = run::run(program, job, &mut work, &mut cells);
+    let n = print_run(program, job, answer, &cells, 0, &mut page);
+    to.write_all(part(&page, 0, n))
 }
 
 // The run of a sample, whose line stands in the job as it is printed.
 fn run_sample(to: &impl Print, program: &[u8], sample: &[u8]) -> io::Result<()> {
-    let mut space = [0u8; PAGE];
-    let text: &mut [u8] = &mut space;
-    let p = put_text(text, opened(0), b"(job ");
-    let q = put_text(text, p, sample);
-    let r = put_text(text, q, b" (neq) (steps 1000) (walk 0) (table 0))");
-    run_case(to, program, part(text, 0, written(r)))
+    let mut text = [0u8; PAGE];
+    let p = put_text(&mut text, opened(0), b"(job ");
+    let q = put_text(&mut text, p, sample);
+    let r = put_text(&mut text, q, b" (neq) (steps 1000) (walk 0) (table 0))");
+    run_case(to, program, part(&text, 0, written(r)))
 }
 
 // The lines of a listing with samples: a sample alone begins with a bracket.
 fn sampled_lines(to: &impl Print, program: &[u8], text: &[u8]) -> io::Result<()> {
-    let mut from: usize = 0;
-    while from < text.len() {
-        let end = line_end(text, from);
-        let line = part(text, from, end);
-        to.write_all(line)?;
-        to.write_all(b"\n")?;
-        if byte(line, 0) == b'(' {
+    let mut rest = text;
+    while !rest.is_empty() {
+        let (line, behind) = first_line(rest);
+        write_line(to, line)?;
+        if line.starts_with(b"(") {
             run_sample(to, program, line)?;
         }
-        from = end + 1;
+        rest = behind;
     }
     Ok(())
 }
 
 fn list_case(to: &impl Print, program: &[u8], job: &[u8]) -> io::Result<()> {
-    let mut work_space = [43981u16; list::WORK];
-    let mut answer_space = [43981u16; list::ANSWER];
-    let work: &mut [u16] = &mut work_space;
-    let answer: &mut [u16] = &mut answer_space;
+    let mut work = [GARBAGE; list::WORK];
+    let mut cells = [GARBAGE; list::ANSWER];
     let mut page = [0u8; PAGE];
-    let out: &mut [u8] = &mut page;
-    let said = list::list(program, job, work, answer);
-    let n = print_list(program, job, said, answer, 0, out);
-    to.write_all(part(out, 0, n))?;
-    let m = print_sampled(program, job, said, answer, 0, out);
-    sampled_lines(to, program, part(out, 0, m))
+    let answer = list::list(program, job, &mut work, &mut cells);
+    let n = print_list(program, job, answer, &cells, 0, &mut page);
+    to.write_all(part(&page, 0, n))?;
+    let m = print_sampled(program, job, answer, &cells, 0, &mut page);
+    sampled_lines(to, program, part(&page, 0, m))
 }
 
-// Whether the job's line asks for a listing.
-fn lists(line: &[u8]) -> bool {
-    if line.len() == 0 {
-        return false;
-    }
-    line[0] == b'L'
+// What stands behind a line's letter, its colon and the blank.
+fn content(line: &[u8]) -> &[u8] {
+    part(line, 3, line.len())
 }
 
 fn answers(to: &impl Print, text: &[u8]) -> io::Result<()> {
-    let mut from: usize = 0;
-    while from < text.len() {
-        let t = line_end(text, from);
-        let p = line_end(text, t + 1);
-        let j = line_end(text, p + 1);
-        to.write_all(part(text, from, t))?;
-        to.write_all(b"\n")?;
-        let program = part(text, t + 4, p);
-        let job = part(text, p + 4, j);
-        if lists(part(text, p + 1, j)) {
-            list_case(to, program, job)?;
+    let mut rest = text;
+    while !rest.is_empty() {
+        let (title, behind) = first_line(rest);
+        let (program, behind) = first_line(behind);
+        let (job, behind) = first_line(behind);
+        write_line(to, title)?;
+        if job.starts_with(b"L") {
+            list_case(to, content(program), content(job))?;
         } else {
-            run_case(to, program, job)?;
+            run_case(to, content(program), content(job))?;
         }
-        from = j + 1;
+        rest = behind;
     }
     Ok(())
 }

@@ -42,7 +42,7 @@ use Rattle.tracing.proofs.ShowLaws.{Accepted, end_at, call_at_lem, same_at, test
 use Rattle.forward.specs.Twins.Next.{ends_at, over_in}
 use Rattle.forward.specs.Twins.Output.{OutLeft, tokens_put}
 use Rattle.forward.specs.Twins.Turning.{output_room, FinishLeft, finished_by, finished}
-use Rattle.running.specs.declared.ran.Ran.TheVariants.{Value as RanValue, Over}
+use Rattle.run_answers.specs.declared.run.Ran.TheVariants.{Value as RanValue, Over}
 use Rattle.forward.proofs.PutLaws.{Puts}
 use Rattle.forward.proofs.OutputLaws.{Sources, output_means}
 use Rattle.forward.proofs.WayLaws.{at}
@@ -93,7 +93,7 @@ module _ (p : Prog) (bodies : ℕ → ℕ) (code : List ℕ) (ok : Accepted p bo
         let ins = (at p bodies code ok empty is t σ).cr.con.io.ins in
         let z : min c.inputs 4120 ≡ length ins = omega (arith, x.holds.inputs, x.holds.entries, entries_few x.holds (omega (arith, run_nodes is 1 t σ)), length-append ins (atm (sym 0) ∷ x.holds.values)) in
         let a : nodes_from (length ins) 0 f ≡ nodes_inputs is = held_nodes (held_first ins (atm (sym 0) ∷ x.holds.values) x.holds.held) ∙ inputs_nodes is in
-        ap (λ (n : ℕ). 4096 - min (nodes_from n 0 f) 4096) z ∙ ap (λ (n : ℕ). 4096 - min n 4096) a ∙ omega arith
+        ap (λ (n : ℕ). 4096 - nodes_from n 0 f) z ∙ ap (λ (n : ℕ). 4096 - n) a
 
     -- THE LAW of an end whose expression stands at i
     module _ (a : Asked) (B : ℕ) (g : List ℕ) (whole : length g ≡ 65535) (d : List ℕ) (long : 4096 ≤ length d) (sc : List Param) (vs : List Exp) (typed : Typed sc vs) (sources : Sources code c a f B g vs)

@@ -1,9 +1,9 @@
 -- One turn of each loop.
 use Prim.Native.Nat.{ℕ, suc, ◌+◌, ◌-◌, ◌≤◌, ◌<◌}
-use mathlib.Core.Path.{◌≡◌, ap}
+use mathlib.Core.Path.{◌≡◌}
 use mathlib.Core.List.{List}
 use native.Mathlib.Omega.{arith}
-use Rattle.sets.specs.declared.fill.Filled.TheVariants.{Done}
+use Rattle.std.specs.Prelude.{Some}
 use Rattle.heap.specs.declared.configuration.Configuration.{Configuration}
 use Rattle.linking.specs.Twins.Code.{link_at}
 use Rattle.tracing.specs.declared.ask.Asked.{Asked}
@@ -12,7 +12,7 @@ use Rattle.forward.specs.Twins.Output.{out_left, onward_from, token_put, tokens_
 use Rattle.forward.specs.Twins.Turning.{turned}
 use Rattle.running.specs.Twins.Answers.{ran_answer}
 use Rattle.forward.specs.Twins.Running.{after_turn, ran_from}
-use Rattle.running.specs.declared.ran.Ran.TheVariants.{NotWithin}
+use Rattle.run_answers.specs.declared.run.Ran.TheVariants.{NotWithin}
 
 none_left : (c j : ℕ) → c ≤ j → c - j ≡ 0
 none_left c j l = omega arith
@@ -21,13 +21,14 @@ some_left : (c j : ℕ) → j < c → c - j ≡ suc (c - (j + 1))
 some_left c j l = omega arith
 
 -- the arguments
-pub argument_turn : {left : ℕ} → 0 < left → (code : List ℕ) (j : ℕ) → argument_from code left j ≡ argument_from code (left - 1) (link_at code j).past
-unfolding argument_from
-argument_turn {left} l code j = let n : left ≡ suc (left - 1) = omega arith in ap (λ (m : ℕ). argument_from code m j) n
+module _ {q k : ℕ} where
+  pub argument_turn : k < q → (code : List ℕ) (j : ℕ) → argument_from code (q - k) j ≡ argument_from code (q - (k + 1)) (link_at code j).past
+  unfolding argument_from
+  argument_turn l code j = rw (some_left q k l)
 
-pub argument_end : {left : ℕ} → left ≤ 0 → (code : List ℕ) (j : ℕ) → argument_from code left j ≡ j
-unfolding argument_from
-argument_end {left} l code j = let n : left ≡ 0 = omega arith in rw n
+  pub argument_end : q ≤ k → (code : List ℕ) (j : ℕ) → argument_from code (q - k) j ≡ j
+  unfolding argument_from
+  argument_end l code j = rw (none_left q k l)
 
 -- the tokens of an output
 module _ {to j : ℕ} where
@@ -36,7 +37,7 @@ module _ {to j : ℕ} where
   unfolding tokens_put
   tokens_turn l code c a limit f at h d = rw (some_left to j l)
 
-  pub tokens_end : to ≤ j → (code : List ℕ) (c : Configuration) (a : Asked) (limit : ℕ) (f : List ℕ) (at : ℕ) (h d : List ℕ) → tokens_put code c a limit f (to - j) j at h d ≡ out_left (Done at) h d
+  pub tokens_end : to ≤ j → (code : List ℕ) (c : Configuration) (a : Asked) (limit : ℕ) (f : List ℕ) (at : ℕ) (h d : List ℕ) → tokens_put code c a limit f (to - j) j at h d ≡ out_left (Some at) h d
   unfolding tokens_put
   tokens_end l code c a limit f at h d = rw (none_left to j l)
 

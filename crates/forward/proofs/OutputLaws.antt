@@ -5,13 +5,12 @@ use mathlib.Core.List.{List, [], ◌∷◌, ◌++◌, append-nil}
 use mathlib.Core.Logic.{◌⊎◌, inl, inr}
 use native.Mathlib.Omega.{arith}
 use lib.ListN.{length, drop, get_or, length-append}
+use Rattle.std.specs.Prelude.{Option, Some, None}
 use Rattle.expressions.specs.Expression.{sym, avar, Exp, atm, evar, nodes}
 use Rattle.expressions.specs.Substitution.{Substitution, apply}
 use Rattle.language.specs.Program.{Param, pe, pa}
 use Rattle.semantics.specs.Configuration.{subst_of_env}
 use Rattle.sets.specs.Cells.{cells}
-use Rattle.sets.specs.declared.fill.Filled.{Filled}
-use Rattle.sets.specs.declared.fill.Filled.TheVariants.{Done, Over}
 use Rattle.sets.proofs.CellLaws.{cells_nodes}
 use Rattle.heap.specs.declared.configuration.Configuration.{Configuration as InCells}
 use Rattle.heap.proofs.HeapLaws.{Holds, nodes_positive}
@@ -21,8 +20,7 @@ use Rattle.linking.specs.Twins.Linked.{place_in, ExpLinked, sym_linked, e_linked
 use Rattle.linking.specs.Twins.Places.{env_of}
 use Rattle.linking.proofs.AgreeLaws.{exp_goes_on}
 use Rattle.linking.proofs.PlaceLaws.{lookup_e, lookup_a}
-use Rattle.values.specs.Twins.Values.{ValueLeft}
-use Rattle.values.specs.declared.value.Valued.TheVariants.{At, Over as ValuedOver}
+use Rattle.values.specs.Twins.Values.{ValueLeft, valued}
 use Rattle.values.proofs.ValueLaws.{Typed, typed_length, atom_typed, Known}
 use Rattle.tracing.specs.declared.ask.Asked.{Asked}
 use Rattle.forward.specs.Twins.Naming.{named_at}
@@ -36,14 +34,14 @@ pub record SourceAt (B : ℕ) (h : List ℕ) (v : Exp) (w : ValueLeft) : Type 0 
   pub used : ℕ
   pub now : ℕ
   pub known : ℕ
-  pub done : w.answer ≡ At from to used known
+  pub done : w.answer ≡ Some (valued from to used known)
   pub holds : Holds w.heap now from to v
   pub fits : now ≤ 65535
   pub kept : Kept B h w.heap
 
 -- or the heap has no room for it
 abbrev pub Source : ℕ → List ℕ → Exp → ValueLeft → Type 0
-Source B h v w = ((w.answer ≡ ValuedOver) × (4096 < nodes v)) ⊎ SourceAt B h v w
+Source B h v w = ((w.answer ≡ None) × (4096 < nodes v)) ⊎ SourceAt B h v w
 
 forth : {g : List ℕ} {now from to : ℕ} {t : Exp} → Holds g now from to t → from ≤ to
 forth {t = t} x = omega (arith, holds_nodes x, nodes_positive t)
@@ -66,10 +64,10 @@ module _ (code : List ℕ) (c : InCells) (a : Asked) (f : List ℕ) (B : ℕ) (h
     two_parts zero n i at g d = let z : 0 + n ≡ n = omega arith in let y : i + 0 ≡ i = omega arith in rw (z, y)
     two_parts (suc m) n i at g d = let z : suc m + n ≡ suc (m + n) = omega arith in rw z (go (token_put code c a limit f i at g d) (λ k u e. two_parts m n (i + 1) k u e))
       where
-        by : (r : Filled) (u e : List ℕ) → ((k : ℕ) (u e : List ℕ) → put (m + n) (i + 1) k u e ≡ onward_from (put n (i + 1 + m)) (put m (i + 1) k u e)) →
+        by : (r : Option ℕ) (u e : List ℕ) → ((k : ℕ) (u e : List ℕ) → put (m + n) (i + 1) k u e ≡ onward_from (put n (i + 1 + m)) (put m (i + 1) k u e)) →
             onward (put (m + n) (i + 1)) r u e ≡ onward_from (put n (i + suc m)) (onward (put m (i + 1)) r u e)
-        by (Done k) u e again = let y : i + 1 + m ≡ i + suc m = omega arith in again k u e ∙ rw y
-        by Over u e again = refl
+        by (Some k) u e again = let y : i + 1 + m ≡ i + suc m = omega arith in again k u e ∙ rw y
+        by None u e again = refl
 
         go : (w : OutLeft) → ((k : ℕ) (u e : List ℕ) → put (m + n) (i + 1) k u e ≡ onward_from (put n (i + 1 + m)) (put m (i + 1) k u e)) →
             onward_from (put (m + n) (i + 1)) w ≡ onward_from (put n (i + suc m)) (onward_from (put m (i + 1)) w)
@@ -80,11 +78,11 @@ module _ (code : List ℕ) (c : InCells) (a : Asked) (f : List ℕ) (B : ℕ) (h
     unfolding tokens_put
     one_token i p r v g x = go (token_put code c a limit f i (length p) g (p ++ r)) x
       where
-        by : (o : Filled) (u e : List ℕ) → PutAs p r v (out_left o u e) → PutAs p r v (onward (λ k u e. out_left (Done k) u e) o u e)
-        by (Done k) u e x = x
-        by Over u e x = x
+        by : (o : Option ℕ) (u e : List ℕ) → PutAs p r v (out_left o u e) → PutAs p r v (onward (λ k u e. out_left (Some k) u e) o u e)
+        by (Some k) u e x = x
+        by None u e x = x
 
-        go : (w : OutLeft) → PutAs p r v w → PutAs p r v (onward_from (λ k u e. out_left (Done k) u e) w)
+        go : (w : OutLeft) → PutAs p r v w → PutAs p r v (onward_from (λ k u e. out_left (Some k) u e) w)
         go w x = by w.answer w.heap w.cells x
 
     then : (m n i : ℕ) (p r v u g : List ℕ) → Room limit B h p r → PutAs p r v (put m i (length p) g (p ++ r)) →

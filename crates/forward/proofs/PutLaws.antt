@@ -1,5 +1,5 @@
 -- What is written into the answer storage behind what stands there, p: cells follow it, or they are over the limit.
-use Prim.Native.Nat.{ℕ, zero, suc, ◌+◌, ◌-◌, ◌≤◌, ◌<◌, min}
+use Prim.Native.Nat.{ℕ, zero, suc, ◌+◌, ◌-◌, ◌≤◌, ◌<◌}
 use mathlib.Core.Path.{◌≡◌, refl, ap, ap₂, ◌∙◌, sym as inv}
 use mathlib.Core.List.{List, [], ◌∷◌, ◌++◌, append_assoc, append-nil}
 use mathlib.Core.Logic.{◌⊎◌, inl, inr}
@@ -9,10 +9,10 @@ use native.Mathlib.Decide.{dec_le}
 use lib.ListN.{length, take, drop, get_or, set, length-append, length-drop}
 use lib.Seq.{drop-cons, set_at, take_at, drop_at, drop-drop}
 use borrow.Author.Tests.{le-leb, lt-leb, lt-ltb, le-ltb}
+use Rattle.std.specs.Prelude.{Some, None}
 use Rattle.expressions.specs.Expression.{Exp, nodes}
 use Rattle.sets.specs.Twins.Copying.{CopyAnswer, copied}
 use Rattle.sets.specs.Cells.{cells}
-use Rattle.sets.specs.declared.fill.Filled.TheVariants.{Done, Over}
 use Rattle.sets.proofs.CellLaws.{cells_nodes, copied_done}
 use Rattle.runs.specs.Twins.Runs.{cells_at}
 use Rattle.runs.proofs.RunLaws.{Below}
@@ -52,15 +52,15 @@ module _ (limit B : ℕ) (h : List ℕ) where
 
   -- v stands behind p
   pub record Follows (p r v : List ℕ) (w : OutLeft) : Type 0 where
-    pub done : w.answer ≡ Done (length (p ++ v))
+    pub done : w.answer ≡ Some (length (p ++ v))
     pub is : w.cells ≡ (p ++ v) ++ drop (length v) r
     pub fits : length p + length v ≤ limit
     pub kept : Kept B h w.heap
 
   abbrev pub Puts : List ℕ → List ℕ → List ℕ → OutLeft → Type 0
-  Puts p r v w = ((w.answer ≡ Over) × (limit < length p + length v) × (length w.cells ≡ length p + length r)) ⊎ Follows p r v w
+  Puts p r v w = ((w.answer ≡ None) × (limit < length p + length v) × (length w.cells ≡ length p + length r)) ⊎ Follows p r v w
 
-  pub nothing_put : (p r g : List ℕ) → Room p r → Kept B h g → Puts p r [] (out_left (Done (length p)) g (p ++ r))
+  pub nothing_put : (p r g : List ℕ) → Room p r → Kept B h g → Puts p r [] (out_left (Some (length p)) g (p ++ r))
   nothing_put p r g m k = inr (record { done = rw (append-nil p); is = rw (append-nil p); fits = omega (arith, m.most); kept = k })
 
   pub cell_put_lem : (p r g : List ℕ) (x : ℕ) → Room p r → Kept B h g → Puts p r (x ∷ []) (beside g (cell_put x (length p) limit (p ++ r)))
@@ -71,7 +71,7 @@ module _ (limit B : ℕ) (h : List ℕ) where
       go (yes l) = rw (le-leb limit (length p) l) (inl (refl, omega arith, length-append p r))
       go (no l) =
           rw (lt-leb limit (length p) (omega arith)) (inr (record {
-            done = ap Done (inv (length-append p (x ∷ [])));
+            done = ap Some (inv (length-append p (x ∷ [])));
             is = set_behind p r x (omega (arith, m.room));
             fits = omega arith;
             kept = k;
@@ -82,8 +82,8 @@ module _ (limit B : ℕ) (h : List ℕ) where
   unfolding range_put
   range_put_lem p r g used from to t m k x u o = go (dec_le (length p + nodes t) limit)
     where
-      size : to - min from to ≡ nodes t
-      size = let z : to - min from to ≡ to - from = omega arith in z ∙ holds_nodes x
+      size : to - from ≡ nodes t
+      size = holds_nodes x
 
       here : take (nodes t) (drop from g) ≡ cells t
       here =
@@ -95,7 +95,7 @@ module _ (limit B : ℕ) (h : List ℕ) where
           let n = cells_nodes t in
           let z : length (p ++ cells t) ≡ length p + nodes t = length-append p (cells t) ∙ omega arith in
           rw (size, le-ltb limit (length p) m.most, le-ltb (limit - length p) (nodes t) (omega arith)) (inr (record {
-            done = ap Done (inv z);
+            done = ap Some (inv z);
             is = copied_behind g from (nodes t) p r (omega (arith, holds_nodes x, x.below, k.size)) (omega (arith, m.room)) ∙ rw (here, n);
             fits = omega arith;
             kept = k;
@@ -118,7 +118,7 @@ module _ (limit B : ℕ) (h : List ℕ) where
           let e = append_assoc p v u in
           let n = length-append v u in
           inr (record {
-            done = b.done ∙ ap (λ (l : List ℕ). Done (length l)) e;
+            done = b.done ∙ ap (λ (l : List ℕ). Some (length l)) e;
             is = b.is ∙ ap₂ {C = List ℕ} ◌++◌ e (drop-drop (length u) (length v) r ∙ ap (λ (j : ℕ). drop j r) (inv n));
             fits = omega (arith, b.fits, length-append p v);
             kept = b.kept;

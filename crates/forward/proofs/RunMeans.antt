@@ -37,7 +37,7 @@ use Rattle.forward.specs.Twins.Next.{ends_at}
 use Rattle.forward.specs.Twins.Turning.{finished, TurnLeft, turned}
 use Rattle.running.specs.Twins.Answers.{RanAnswer, ran_answer}
 use Rattle.forward.specs.Twins.Running.{after_turn, ran_from, finished_ran, ran_on}
-use Rattle.running.specs.declared.ran.Ran.TheVariants.{Value as RanValue, Over as RanOver, NotWithin}
+use Rattle.run_answers.specs.declared.run.Ran.TheVariants.{Value as RanValue, Over as RanOver, NotWithin}
 use Rattle.forward.proofs.SourceLaws.{end_sources}
 use Rattle.forward.proofs.WayLaws.{at}
 use Rattle.forward.proofs.FinishLaws.{is_result, ends_is, over_is, finish_over, finish_value}

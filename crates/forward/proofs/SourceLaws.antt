@@ -9,6 +9,7 @@ use lib.Dec.{eqb, ltb}
 use lib.ListN.{length, get_or, length-append, get_or-append}
 use lib.Seq.{get_or_at}
 use borrow.Author.Tests.{lt-ltb, le-ltb, ltb-true, ltb-false, eqb-true, eqb-false}
+use Rattle.std.specs.Prelude.{Some}
 use Rattle.expressions.specs.Expression.{AtomicExp, sym, Exp, atm, pair}
 use Rattle.expressions.specs.Substitution.{Substitution, apply, apply_all}
 use Rattle.expressions.specs.Contraction.{CRPair}
@@ -23,8 +24,7 @@ use Rattle.linking.specs.Twins.Linked.{ExpLinked, cons_linked, ExpsLinked, none_
 use Rattle.linking.specs.Twins.Places.{env_of}
 use Rattle.constants.proofs.ConstantLaws.{NoConstants, none_held}
 use Rattle.values.specs.Twins.Names.{names_from, names_in}
-use Rattle.values.specs.Twins.Values.{ValueLeft, value_left, value_at}
-use Rattle.values.specs.declared.value.Valued.TheVariants.{At}
+use Rattle.values.specs.Twins.Values.{ValueLeft, valued, value_left, value_at}
 use Rattle.values.proofs.ValueLaws.{Known, AllKnown, valued_name}
 use Rattle.values.proofs.ValueLaws.{past_linked}
 use Rattle.values.proofs.RoomLaws.{value_outcome}
@@ -64,7 +64,7 @@ two_sources B h vs q u own a b w z l s t =
     same false false e f = let k = ltb-false q (length vs) e in let n = eqb-false q (length vs) f in rw (le-ltb q (length (vs ++ (a ∷ []))) (omega (arith, one, n)))
 
 -- a range that is there
-at_source : {B : ℕ} {h g : List ℕ} {from to : ℕ} {v : Exp} → Holds h B from to v → B ≤ 65535 → Kept B h g → Source B h v (value_left (At from to B 0) g)
+at_source : {B : ℕ} {h g : List ℕ} {from to : ℕ} {v : Exp} → Holds h B from to v → B ≤ 65535 → Kept B h g → Source B h v (value_left (Some (valued from to B 0)) g)
 at_source {B} {h} {g} {from} {to} x l k = inr (record { from = from; to = to; used = B; now = B; known = 0; done = refl; holds = holds_below x k.same (omega arith); fits = l; kept = k })
 
 -- the arguments of a call, by their places
@@ -169,12 +169,12 @@ module _ (code : List ℕ) (empty : NoConstants code) {h f q : List ℕ} {c : In
       pub atom_sources : (from to : ℕ) (y : AtomicExp) → Holds g now from to (atm y) → Sources code c (Test (Atom from to now)) f now g (vs ++ (atm y ∷ []))
       unfolding named_at tested_named
       atom_sources from to y there i l j p is e kept =
-          rw (is, names_count) (last_source now g vs i (own_at code c j e f) (λ o. own_source now above e kept i o j p is) (atm y) (value_left (At from to now 0) e) l (at_source there in_heap_lem kept))
+          rw (is, names_count) (last_source now g vs i (own_at code c j e f) (λ o. own_source now above e kept i o j p is) (atm y) (value_left (Some (valued from to now 0)) e) l (at_source there in_heap_lem kept))
 
       pub pair_sources : (from mid to : ℕ) (a b : Exp) → Holds g now from mid a → Holds g now mid to b → Sources code c (Test (Pair from mid to now)) f now g ((vs ++ (a ∷ [])) ++ (b ∷ []))
       unfolding named_at tested_named
       pair_sources from mid to a b head tail i l j p is e kept =
-          rw (is, names_count) (two_sources now g vs i (own_at code c j e f) (λ o. own_source now above e kept i o j p is) a b (value_left (At from mid now 0) e) (value_left (At mid to now 0) e) l
+          rw (is, names_count) (two_sources now g vs i (own_at code c j e f) (λ o. own_source now above e kept i o j p is) a b (value_left (Some (valued from mid now 0)) e) (value_left (Some (valued mid to now 0)) e) l
           (at_source head in_heap_lem kept) (at_source tail in_heap_lem kept))
 
     -- a `cons` of the program whose value has no room

@@ -8,6 +8,9 @@ use native.Mathlib.Omega.{arith}
 use native.Mathlib.Decide.{dec_le}
 use lib.ListN.{length, drop}
 use borrow.Author.Tests.{lt-ltb, le-ltb}
+use Rattle.std.specs.Prelude.{Err}
+use Rattle.std.specs.declared.ops.ControlFlow.TheVariants.{Continue, Break}
+use Rattle.restrictions.specs.declared.failure.Failure.TheVariants.{Over}
 use Rattle.expressions.specs.Expression.{Value, sym, Exp}
 use Rattle.expressions.specs.Substitution.{ground_exp, apply}
 use Rattle.language.specs.Program.{Term, call, conditional, result, Param, Prog}
@@ -24,7 +27,6 @@ use Rattle.sets.specs.Cells.{cells}
 use Rattle.compaction.specs.Twins.Compacting.{Compaction, compacted}
 use Rattle.heap.specs.Twins.Moving.{Left}
 use Rattle.heap.specs.declared.configuration.Configuration.{Configuration as InCells}
-use Rattle.heap.specs.declared.configuration.Moved.TheVariants.{Over as MovedOver}
 use Rattle.compaction.proofs.CompactLaws.{Compacted, compact_means}
 use Rattle.linking.specs.Twins.Linked.{ExpLinked, TermLinked, result_linked}
 use Rattle.linking.specs.Twins.Places.{env_of}
@@ -37,8 +39,7 @@ use Rattle.tracing.specs.Twins.Asking.{AskLeft, asked_at, branches_asked, taken_
 use Rattle.tracing.proofs.ShowLaws.{Accepted}
 use Rattle.forward.specs.Twins.Next.{next_place, ends_at}
 use Rattle.forward.specs.Twins.Turning.{used_as, RoomLeft, roomed_to, roomed, finished, sized_left, advanced, TurnLeft, ended_turn, went_turn, turned_by, turned_asked, turned}
-use Rattle.running.specs.declared.ran.Ran.TheVariants.{Value as RanValue, Over}
-use Rattle.forward.specs.declared.turn.Turn.TheVariants.{On, Ended}
+use Rattle.run_answers.specs.declared.run.Ran.TheVariants.{Value as RanValue, Over as RanOver}
 use Rattle.forward.proofs.WayLaws.{at, Way, WayTo, way}
 use Rattle.forward.proofs.LandingLaws.{Landing, landing}
 use Rattle.forward.proofs.FinishLaws.{is_result, ends_is, over_is, finish_over, finish_value}
@@ -116,9 +117,9 @@ module _ (p : Prog) (bodies : ℕ → ℕ) (code : List ℕ) (ok : Accepted p bo
 
   -- What a turn leaves, the k-th.
   pub data TurnMeans (k : ℕ) (d : List ℕ) (w : TurnLeft) : Next → Type 0 where
-    over_turn : {n : Next} → 4096 < nodes_next is n → w.turn ≡ Ended Over → length w.answer ≡ length d → TurnMeans k d w n
-    end_turn : {v : Value} → nodes_next is (end v) ≤ 4096 → w.turn ≡ Ended (RanValue k (nodes_value v)) → w.answer ≡ cells (embed v) ++ drop (nodes_value v) d → TurnMeans k d w (end v)
-    go_turn : {t : Term} {σ : ValueEnv} (c : InCells) → w.turn ≡ On c → w.answer ≡ d → Running w.heap w.frame w.q c t σ → TurnMeans k d w (go t σ)
+    over_turn : {n : Next} → 4096 < nodes_next is n → w.turn ≡ Break RanOver → length w.answer ≡ length d → TurnMeans k d w n
+    end_turn : {v : Value} → nodes_next is (end v) ≤ 4096 → w.turn ≡ Break (RanValue k (nodes_value v)) → w.answer ≡ cells (embed v) ++ drop (nodes_value v) d → TurnMeans k d w (end v)
+    go_turn : {t : Term} {σ : ValueEnv} (c : InCells) → w.turn ≡ Continue c → w.answer ≡ d → Running w.heap w.frame w.q c t σ → TurnMeans k d w (go t σ)
 
   -- the state behind a step is one of the program
   pub scoped_next : {t u : Term} {σ τ : ValueEnv} → WellScoped p t σ → step p t σ ≡ go u τ → WellScoped p u τ
@@ -167,11 +168,11 @@ module _ (p : Prog) (bodies : ℕ → ℕ) (code : List ℕ) (ok : Accepted p bo
         pick v value s (yes m) =
             let z = finish_value p bodies code ok empty is t σ x fits asking.asked l.B asking.heap w.whole d long l.names l.values l.typed l.sources (next_place code c.place w.by) l.past e
             (result_linked_lem l.term) (known_end e τ s w.by l) v value k m in
-            end_turn m (ap Ended z.0) z.1
+            end_turn m (ap Break z.0) z.1
         pick v value s (no m) =
             let z = finish_over p bodies code ok empty is t σ x fits asking.asked l.B asking.heap w.whole d long l.names l.values l.typed l.sources (next_place code c.place w.by) l.past e
             (result_linked_lem l.term) (known_end e τ s w.by l) v value k (omega arith) in
-            over_turn {n = end v} (omega arith) (ap Ended z.0) z.1
+            over_turn {n = end v} (omega arith) (ap Break z.0) z.1
 
     landed_go : (u : Term) (τ : ValueEnv) → is_result u ≡ false → step p t σ ≡ go u τ → (w : OnWay u τ) → Lands w.by u τ → TurnMeans k d here (go u τ)
     unfolding advanced
@@ -180,7 +181,7 @@ module _ (p : Prog) (bodies : ℕ → ℕ) (code : List ℕ) (ok : Accepted p bo
         let y : here ≡ went_turn d (advanced code c asking.asked w.by asking.heap f q) = here_is w.by w.yes_is ∙ by_end w.by false (ends_is u l.term s ∙ no_end) in
         subst (λ (z : TurnLeft). TurnMeans k d z (go u τ)) (inv y) (pick (taken_as code c asking.asked w.by asking.heap f q) s (w.leads.to (K u τ) refl))
       where
-        pick : (W : Left) → WellScoped p u τ → ((W.answer ≡ MovedOver) × (4097 < nodes_state (K u τ).cr)) ⊎ Arrives p bodies code h c.used (K u τ) W → TurnMeans k d (went_turn d (sized_left W)) (go u τ)
+        pick : (W : Left) → WellScoped p u τ → ((W.answer ≡ Err Over) × (4097 < nodes_state (K u τ).cr)) ⊎ Arrives p bodies code h c.used (K u τ) W → TurnMeans k d (went_turn d (sized_left W)) (go u τ)
         pick W s (inl o) = over_turn {n = go u τ} (omega (arith, o.1, run_nodes is 1 u τ)) (rw o.0) refl
         pick W s (inr a) = by_size (dec_le (nodes_next is (go u τ)) 4096)
           where

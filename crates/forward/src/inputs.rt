@@ -4,8 +4,11 @@ ghost use Rattle.running.specs.Twins.Answers.{ran_answer};
 ghost use Rattle.forward.specs.Twins.Running.{run_begun, run_inputs};
 
 use crate::run::run_on;
-use initial::begin::{Begun, begin, main_body};
-use running::ran::{Ran, settle};
+use heap::configuration::Configuration;
+use initial::begin::{begin, main_body};
+use restrictions::failure::Failure;
+use run_answers::run::Ran;
+use running::ran::settle;
 use syntax::job_ends::JobEnds;
 
 // From what the job begins as, on.
@@ -14,16 +17,15 @@ fn run_begun(
     heap: &mut [u16; 65535],
     frame: &mut [u16; 12360],
     q: &mut [u16; 4096],
-    b: Begun,
+    b: Result<Configuration, Failure>,
     steps: usize,
     answer: &mut [u16],
 ) -> Ran
     ensures { ran_answer result answer.new ≡ run_begun code.now b steps heap.old frame.old q.old answer.old }
 {
     match b {
-        Begun::On(c) => run_on(code, heap, frame, q, c, steps, answer),
-        Begun::None => Ran::Over,
-        Begun::Over => Ran::Over,
+        Ok(c) => run_on(code, heap, frame, q, c, steps, answer),
+        Err(_) => Ran::Over,
     }
 }
 

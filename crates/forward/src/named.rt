@@ -1,12 +1,10 @@
 // The value of a name at an end. "Its nodes are those of the inputs and the environment values, at an end of the inputs and the output": the environment
 // of an end may be of any size, so that it is never made. A name's value is worked out where the output has it, in the environment before.
-ghost use Rattle.std.specs.Prelude.{◌≡◌, ◌≤◌};
-ghost use Rattle.values.specs.Twins.Values.{value_left};
-ghost use Rattle.values.specs.declared.value.Valued.TheVariants.{At};
+ghost use Rattle.std.specs.Prelude.{◌≡◌, ◌≤◌, Some};
+ghost use Rattle.values.specs.Twins.Values.{valued, value_left};
 ghost use Rattle.looking.specs.Twins.Looking.{test_at};
 ghost use Rattle.forward.specs.Twins.Naming.{argument_from, own_at, argument_named, part_index, tested_named, named_at};
 
-use cells::cell;
 use heap::configuration::Configuration;
 use linking::code::link_at;
 use looking::look::Tested;
@@ -18,13 +16,9 @@ use values::value::{Valued, value};
 fn argument_from(code: &[u16; 24582], q: u16, i: usize) -> usize
     ensures { result ≡ argument_from code.now q i }
 {
-    let mut left = q;
     let mut j = i;
-    while 0 < left {
-        let l = link_at(code, j);
-        let past = l.past;
-        j = past as usize;
-        left -= 1;
+    for _ in 0..q {
+        j = usize::from(link_at(code, j).past);
     }
     j
 }
@@ -33,7 +27,7 @@ fn argument_from(code: &[u16; 24582], q: u16, i: usize) -> usize
 fn inner(c: Configuration) -> usize
     ensures { (result ≡ test_at c) × (result ≤ 4101) }
 {
-    cell::least(c.place, 4097) + 4
+    c.place.min(4097) + 4
 }
 
 // The value of the expression at i in the configuration's environment.
@@ -43,7 +37,7 @@ fn own_value(
     frame: &[u16; 12360],
     c: Configuration,
     i: usize,
-) -> Valued
+) -> Option<Valued>
     ensures { value_left result heap.new ≡ own_at code.now c i heap.old frame.now }
 {
     value(code, heap, frame, names_from(c), c.used, i)
@@ -56,7 +50,7 @@ fn argument_value(
     frame: &[u16; 12360],
     c: Configuration,
     q: u16,
-) -> Valued
+) -> Option<Valued>
     ensures { value_left result heap.new ≡ argument_named code.now c q heap.old frame.now }
 {
     let i = argument_from(code, q, inner(c));
@@ -69,7 +63,7 @@ fn part_index(code: &[u16; 24582], c: Configuration, q: u16, j: usize) -> usize
     ensures { result ≡ part_index code.now c q j }
 {
     let n = names_in(c);
-    let place = cell::wide(q);
+    let place = usize::from(q);
     if place < n {
         return j;
     }
@@ -77,21 +71,19 @@ fn part_index(code: &[u16; 24582], c: Configuration, q: u16, j: usize) -> usize
     if place == n {
         return i;
     }
-    let l = link_at(code, i);
-    let past = l.past;
-    past as usize
+    usize::from(link_at(code, i).past)
 }
 
 // A range of which nothing more is known.
-fn plain(from: usize, to: usize, used: usize) -> Valued
-    ensures { result ≡ At from to used 0 }
+fn plain(from: usize, to: usize, used: usize) -> Option<Valued>
+    ensures { result ≡ Some (valued from to used 0) }
 {
-    Valued::At {
-        from: from,
-        to: to,
-        used: used,
+    Some(Valued {
+        from,
+        to,
+        used,
         known: 0,
-    }
+    })
 }
 
 // Behind a `cons?`: its names are bound to the atom, or to the parts of the pair; the others are what they were.
@@ -103,11 +95,11 @@ fn tested_value(
     t: Tested,
     q: u16,
     j: usize,
-) -> Valued
+) -> Option<Valued>
     ensures { value_left result heap.new ≡ tested_named code.now c t q j heap.old frame.now }
 {
     let n = names_in(c);
-    let place = cell::wide(q);
+    let place = usize::from(q);
     match t {
         Tested::Atom { from, to, used } => {
             if place < n {
@@ -129,7 +121,7 @@ fn tested_value(
             }
             plain(mid, to, used)
         }
-        Tested::Variable { var: _ } => Valued::Over,
+        Tested::Variable { .. } => None,
         Tested::Large => own_value(code, heap, frame, c, part_index(code, c, q, j)),
     }
 }
@@ -142,15 +134,14 @@ pub(crate) fn name_value(
     c: Configuration,
     a: Asked,
     j: usize,
-) -> Valued
+) -> Option<Valued>
     ensures { value_left result heap.new ≡ named_at code.now c a j heap.old frame.now }
 {
-    let l = link_at(code, j);
-    let q = l.first;
+    let q = link_at(code, j).first;
     match a {
         Asked::End => own_value(code, heap, frame, c, j),
         Asked::Call => argument_value(code, heap, frame, c, q),
-        Asked::Same { left: _, right: _ } => own_value(code, heap, frame, c, j),
+        Asked::Same { .. } => own_value(code, heap, frame, c, j),
         Asked::Test(t) => tested_value(code, heap, frame, c, t, q, j),
     }
 }

@@ -2,7 +2,6 @@
 ghost use Rattle.std.specs.Prelude.{◌≡◌, Bool};
 ghost use Rattle.forward.specs.Twins.Next.{next_place, ends_at, over_in};
 
-use cells::cell;
 use heap::configuration::Configuration;
 use heap::entry;
 use linking::code::{CALL, link_at};
@@ -12,21 +11,14 @@ pub(crate) fn next_place(code: &[u16; 24582], place: usize, taken: bool) -> usiz
     ensures { result ≡ next_place code.now place taken }
 {
     let l = link_at(code, place);
-    let first = l.first;
-    let second = l.second;
-    if taken {
-        return cell::wide(first);
-    }
-    cell::wide(second)
+    usize::from(if taken { l.first } else { l.second })
 }
 
 // "A state whose term is an e is an end".
 pub(crate) fn ends_at(code: &[u16; 24582], i: usize) -> bool
     ensures { result ≡ ends_at code.now i }
 {
-    let l = link_at(code, i);
-    let mark = l.mark;
-    mark < CALL
+    link_at(code, i).mark < CALL
 }
 
 // "21 over 4,096 nodes": "Its nodes are those of the inputs and the environment values". The symbol that stands as wanted output is one more.

@@ -4,9 +4,10 @@ ghost use Rattle.running.specs.Twins.Answers.{ran_answer};
 ghost use Rattle.forward.specs.Twins.Running.{ran_from, ran_on};
 
 use crate::next::{ends_at, is_over};
-use crate::turn::{Turn, finish, take_turn};
+use crate::turn::{finish, take_turn};
 use heap::configuration::Configuration;
-use running::ran::{Ran, is_within};
+use run_answers::run::Ran;
+use std::ops::ControlFlow;
 use tracing::ask::Asked;
 
 // From a state that is no end, one step from the start, on.
@@ -22,17 +23,10 @@ fn run_from(
     ensures { ran_answer result answer.new ≡ ran_from code.now (steps - 1) 1 c heap.old frame.old q.old answer.old }
 {
     let mut d = c;
-    let mut k: usize = 1;
-    while is_within(k, steps) {
-        k += 1;
-        let t = take_turn(code, heap, frame, q, d, k, answer);
-        match t {
-            Turn::On(e) => {
-                d = e;
-            }
-            Turn::Ended(r) => {
-                return r;
-            }
+    for k in 1..steps {
+        match take_turn(code, heap, frame, q, d, k + 1, answer) {
+            ControlFlow::Continue(e) => d = e,
+            ControlFlow::Break(r) => return r,
         }
     }
     Ran::NotWithin

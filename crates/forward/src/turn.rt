@@ -1,37 +1,20 @@
 // One transition of a run.
 ghost use Rattle.std.specs.Prelude.{◌≡◌, Bool};
-ghost use Rattle.forward.specs.Twins.Turning.{used_as, room_left, roomed, output_room, finish_left, finished, turn_by, turn_left, advanced, turned};
+ghost use Rattle.forward.specs.Twins.Turning.{room_left, roomed, output_room, finish_left, finished, turn_by, turn_left, advanced, turned};
 
 use crate::next::{ends_at, is_over, next_place};
 use crate::output::push_output;
-use cells::cell;
 use compaction::compact::compact;
-use heap::configuration::{Configuration, Moved};
+use heap::configuration::Configuration;
 use heap::entry;
-use running::ran::{Ran, ran_by};
+use run_answers::run::Ran;
+use running::ran::ran_by;
+use std::ops::ControlFlow;
 use tracing::ask::{Asked, ask, branches};
 use tracing::take::take;
 
 // What a transition leads to: the next state, or what the run comes to.
-#[derive(Drop)]
-pub(crate) enum Turn {
-    On(Configuration),
-    Ended(Ran),
-}
-
-fn with_used(c: Configuration, used: usize) -> Configuration
-    ensures { result ≡ used_as c used }
-{
-    Configuration {
-        inputs: c.inputs,
-        outputs: c.outputs,
-        entries: c.entries,
-        used: used,
-        neqs: c.neqs,
-        place: c.place,
-        counter: c.counter,
-    }
-}
+pub(crate) type Turn = ControlFlow<Ran, Configuration>;
 
 // Where much of the heap is used, the values in use are put together from its first cell on.
 fn make_room(heap: &mut [u16; 65535], frame: &mut [u16; 12360], c: Configuration) -> Configuration
@@ -39,7 +22,7 @@ fn make_room(heap: &mut [u16; 65535], frame: &mut [u16; 12360], c: Configuration
 {
     if 40959 < c.used {
         let used = compact(heap, frame, c.entries, 0, c.used);
-        return with_used(c, used);
+        return Configuration { used, ..c };
     }
     c
 }
@@ -48,7 +31,7 @@ fn make_room(heap: &mut [u16; 65535], frame: &mut [u16; 12360], c: Configuration
 fn output_room(frame: &[u16; 12360], c: Configuration) -> usize
     ensures { result ≡ output_room c frame.now }
 {
-    4096 - cell::least(entry::nodes(frame, c.inputs), 4096)
+    4096_usize.saturating_sub(entry::nodes(frame, c.inputs))
 }
 
 // The end whose term stands at i, so many steps from the start.
@@ -81,16 +64,14 @@ fn advance(
 ) -> Turn
     ensures { turn_by result heap.new frame.new q.new ≡ advanced code.now c a taken heap.old frame.old q.old }
 {
-    let m = take(code, heap, frame, q, c, a, taken);
-    match m {
-        Moved::On(d) => {
+    match take(code, heap, frame, q, c, a, taken) {
+        Ok(d) => {
             if is_over(frame, d) {
-                return Turn::Ended(Ran::Over);
+                return ControlFlow::Break(Ran::Over);
             }
-            Turn::On(d)
+            ControlFlow::Continue(d)
         }
-        Moved::Contradiction => Turn::Ended(Ran::Over),
-        Moved::Over => Turn::Ended(Ran::Over),
+        Err(_) => ControlFlow::Break(Ran::Over),
     }
 }
 
@@ -108,12 +89,10 @@ pub(crate) fn take_turn(
 {
     let c = make_room(heap, frame, from);
     let a = ask(code, heap, frame, c);
-    let b = branches(q, c.neqs, a);
-    let taken = b.yes;
+    let taken = branches(q, c.neqs, a).yes;
     let i = next_place(code, c.place, taken);
     if ends_at(code, i) {
-        let r = finish(code, heap, frame, c, a, i, steps, answer);
-        return Turn::Ended(r);
+        return ControlFlow::Break(finish(code, heap, frame, c, a, i, steps, answer));
     }
     advance(code, heap, frame, q, c, a, taken)
 }

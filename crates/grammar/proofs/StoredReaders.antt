@@ -3,14 +3,14 @@ use Prim.Native.Nat.{ℕ, zero, suc, ◌<◌, ◌-◌, ◌/◌, ◌%◌}
 use mathlib.Core.Path.{◌≡◌, refl, ap, ◌∙◌}
 use mathlib.Core.Bool.{Bool, true, false, cond}
 use mathlib.Core.List.{List}
+use Rattle.std.specs.Prelude.{Result, Ok, Err}
 use native.Mathlib.Omega.{arith}
 use lib.Dec.{eqb, leb, ltb}
-use borrow.Author.Tests.{ltb-true, eqb-false, leb-false}
+use borrow.Author.Tests.{ltb-true, eqb-false, leb-false, eq-eqb, ne_eqb}
 use Rattle.language.specs.Words.{Fit, fits, broken, long, many}
 use Rattle.language.specs.Tokens.{tag}
 use Rattle.language.specs.Reader.{roomed}
-use Rattle.words.specs.declared.got.Got.{Got}
-use Rattle.words.specs.declared.got.Got.TheVariants.{Past, Refused}
+use Rattle.refusals.specs.declared.refusal.Refusal.{Refusal}
 use Rattle.grammar.specs.Twins.Positions.{on_past, seq_p, pick_p, tree_p}
 use Rattle.words.specs.Twins.Marks.{kind_at, kind_tag, fit_at}
 use Rattle.grammar.specs.Twins.Stored.{mark_at, wrong_at, the_in_at, leaf_at, tree_at}
@@ -56,23 +56,23 @@ tag_kind m = go (ltb (m / 32 % 8) 5) refl
     go false e = refl
 
 -- one reader behind another
-pub on_seq : (p q : ℕ → Got) (g : Got) → on_past (seq_p p q) g ≡ on_past q (on_past p g)
-on_seq p q (Past i) = refl
-on_seq p q (Refused n o) = refl
+pub on_seq : (p q : ℕ → Result ℕ Refusal) (g : Result ℕ Refusal) → on_past (seq_p p q) g ≡ on_past q (on_past p g)
+on_seq p q (Ok i) = refl
+on_seq p q (Err r) = refl
 
 module _ (marks ats : List ℕ) (e a : ℕ) where
-  pub tree_leaf : (room i : ℕ) → eqb (mark_at marks i % 32) 1 ≡ false → tree_at marks ats e a room i ≡ leaf_at marks ats e a i
+  pub tree_leaf : (room i : ℕ) → (mark_at marks i % 32 ≡ 1 → ⊥) → tree_at marks ats e a room i ≡ leaf_at marks ats e a i
   unfolding tree_at tree_p
-  tree_leaf zero i z = ap (λ b. pick_p b (λ k. on_past (wrong_at ats) (the_in_at marks ats 0 1 k)) (leaf_at marks ats e a) i) z
+  tree_leaf zero i z = ap (λ b. pick_p b (λ k. on_past (wrong_at ats) (the_in_at marks ats 0 1 k)) (leaf_at marks ats e a) i) (ne_eqb _ _ z)
   tree_leaf (suc room) i z =
       let t = tree_at marks ats e a room in
-      ap (λ b. pick_p b (seq_p (the_in_at marks ats 1 1) (seq_p (the_in_at marks ats 1 8) (seq_p t (seq_p t (the_in_at marks ats 1 2))))) (leaf_at marks ats e a) i) z
+      ap (λ b. pick_p b (seq_p (the_in_at marks ats 1 1) (seq_p (the_in_at marks ats 1 8) (seq_p t (seq_p t (the_in_at marks ats 1 2))))) (leaf_at marks ats e a) i) (ne_eqb _ _ z)
 
-  pub tree_shut : {room : ℕ} → room ≡ 0 → (i : ℕ) → eqb (mark_at marks i % 32) 1 ≡ true → tree_at marks ats e a room i ≡ on_past (wrong_at ats) (the_in_at marks ats 0 1 i)
+  pub tree_shut : {room : ℕ} → room ≡ 0 → (i : ℕ) → mark_at marks i % 32 ≡ 1 → tree_at marks ats e a room i ≡ on_past (wrong_at ats) (the_in_at marks ats 0 1 i)
   unfolding tree_at tree_p
-  tree_shut h i z = rw h (ap (λ b. pick_p b (λ k. on_past (wrong_at ats) (the_in_at marks ats 0 1 k)) (leaf_at marks ats e a) i) z)
+  tree_shut h i z = rw h (ap (λ b. pick_p b (λ k. on_past (wrong_at ats) (the_in_at marks ats 0 1 k)) (leaf_at marks ats e a) i) (eq-eqb _ _ z))
 
-  pub tree_more : {room : ℕ} → (room ≡ 0 → ⊥) → (i : ℕ) → eqb (mark_at marks i % 32) 1 ≡ true → tree_at marks ats e a room i ≡
+  pub tree_more : {room : ℕ} → (room ≡ 0 → ⊥) → (i : ℕ) → mark_at marks i % 32 ≡ 1 → tree_at marks ats e a room i ≡
       on_past (the_in_at marks ats 1 2) (on_past (tree_at marks ats e a (room - 1)) (on_past (tree_at marks ats e a (room - 1)) (on_past (the_in_at marks ats 1 8) (the_in_at marks ats 1 1 i))))
   unfolding tree_at tree_p
   tree_more {room = zero} h i z = absurd (h refl)
@@ -81,6 +81,6 @@ module _ (marks ats : List ℕ) (e a : ℕ) where
       let t = tree_at marks ats e a room in
       let c = the_in_at marks ats 1 2 in
       let inside = on_past (the_in_at marks ats 1 8) (the_in_at marks ats 1 1 i) in
-      rw d (ap (λ b. pick_p b (seq_p (the_in_at marks ats 1 1) (seq_p (the_in_at marks ats 1 8) (seq_p t (seq_p t c)))) (leaf_at marks ats e a) i) z
+      rw d (ap (λ b. pick_p b (seq_p (the_in_at marks ats 1 1) (seq_p (the_in_at marks ats 1 8) (seq_p t (seq_p t c)))) (leaf_at marks ats e a) i) (eq-eqb _ _ z)
       ∙ on_seq (the_in_at marks ats 1 8) (seq_p t (seq_p t c)) (the_in_at marks ats 1 1 i)
       ∙ on_seq t (seq_p t c) inside ∙ on_seq t c (on_past t inside))

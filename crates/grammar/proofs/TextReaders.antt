@@ -1,13 +1,13 @@
 -- One step of the readers of definitions, programs and jobs over stored tokens.
-use Prim.Native.Nat.{ℕ, zero, suc, ◌<◌, ◌≤◌, ◌-◌, ◌%◌}
+use Prim.Native.Nat.{ℕ, zero, suc, ◌<◌, ◌≤◌, ◌+◌, ◌-◌, ◌%◌}
 use mathlib.Core.Path.{◌≡◌, refl, ap, ◌∙◌}
-use mathlib.Core.Bool.{true, false}
 use mathlib.Core.List.{List}
+use Rattle.std.specs.Prelude.{Result, Ok}
 use native.Mathlib.Omega.{arith}
 use lib.Dec.{eqb}
+use borrow.Author.Tests.{eq-eqb, ne_eqb}
 use Rattle.language.specs.Tokens.{tag}
-use Rattle.words.specs.declared.got.Got.{Got}
-use Rattle.words.specs.declared.got.Got.TheVariants.{Past}
+use Rattle.refusals.specs.declared.refusal.Refusal.{Refusal}
 use Rattle.grammar.specs.Twins.Positions.{on_past, seq_p, pick_p, parameters_p, definition_p, definitions_p, program_p, job_p}
 use Rattle.words.specs.Twins.Marks.{kind_at, kind_tag}
 use Rattle.grammar.specs.Twins.Stored.{mark_at, wrong_at, the_in_at, one_of_at, tree_at, trees_at, term_at, parameter_at, parameters_at, definition_at, definitions_at, program_at, sides_at, pairs_at, part_at, inputs_at, output_at, non_equalities_at, numeral_at, end_at, job_at}
@@ -19,33 +19,37 @@ module _ (marks ats : List ℕ) where
   unfolding parameter_at
   parameter_opens room i = refl
 
-  pub parameter_e : (room i : ℕ) → eqb (kind_tag (mark_at marks i)) 1 ≡ true → parameter_at marks ats room i ≡ one_of_at marks ats room 1 i
-  parameter_e room i z = parameter_opens room i ∙ ap (λ b. pick_p b (one_of_at marks ats room 1) (one_of_at marks ats room 2) i) (ap (λ k. eqb k 1) (tag_kind (mark_at marks i)) ∙ z)
+  pub parameter_e : (room i : ℕ) → kind_tag (mark_at marks i) ≡ 1 → parameter_at marks ats room i ≡ one_of_at marks ats room 1 i
+  parameter_e room i z = parameter_opens room i ∙ ap (λ b. pick_p b (one_of_at marks ats room 1) (one_of_at marks ats room 2) i) (ap (λ k. eqb k 1) (tag_kind (mark_at marks i)) ∙ eq-eqb _ _ z)
 
-  pub parameter_a : (room i : ℕ) → eqb (kind_tag (mark_at marks i)) 1 ≡ false → parameter_at marks ats room i ≡ one_of_at marks ats room 2 i
-  parameter_a room i z = parameter_opens room i ∙ ap (λ b. pick_p b (one_of_at marks ats room 1) (one_of_at marks ats room 2) i) (ap (λ k. eqb k 1) (tag_kind (mark_at marks i)) ∙ z)
+  pub parameter_a : (room i : ℕ) → (kind_tag (mark_at marks i) ≡ 1 → ⊥) → parameter_at marks ats room i ≡ one_of_at marks ats room 2 i
+  parameter_a room i z = parameter_opens room i ∙ ap (λ b. pick_p b (one_of_at marks ats room 1) (one_of_at marks ats room 2) i) (ap (λ k. eqb k 1) (tag_kind (mark_at marks i)) ∙ ne_eqb _ _ z)
 
-  parameters_step : (n i : ℕ) → parameters_at marks ats (suc n) i ≡ pick_p (eqb (mark_at marks i % 32) 4) Past (seq_p (parameter_at marks ats 1) (parameters_at marks ats n)) i
+  parameters_step : (n i : ℕ) → parameters_at marks ats (suc n) i ≡ pick_p (eqb (mark_at marks i % 32) 4) Ok (seq_p (parameter_at marks ats 1) (parameters_at marks ats n)) i
   unfolding parameters_at parameters_p parameter_at
   parameters_step n i = refl
 
-  parameters_last : (i : ℕ) → parameters_at marks ats 0 i ≡ pick_p (eqb (mark_at marks i % 32) 4) Past (seq_p (parameter_at marks ats 0) (wrong_at ats)) i
+  parameters_last : (i : ℕ) → parameters_at marks ats 0 i ≡ pick_p (eqb (mark_at marks i % 32) 4) Ok (seq_p (parameter_at marks ats 0) (wrong_at ats)) i
   unfolding parameters_at parameters_p parameter_at
   parameters_last i = refl
 
-  pub parameters_close : (n i : ℕ) → eqb (mark_at marks i % 32) 4 ≡ true → parameters_at marks ats n i ≡ Past i
-  parameters_close zero i z = parameters_last i ∙ ap (λ b. pick_p b Past (seq_p (parameter_at marks ats 0) (wrong_at ats)) i) z
-  parameters_close (suc n) i z = parameters_step n i ∙ ap (λ b. pick_p b Past (seq_p (parameter_at marks ats 1) (parameters_at marks ats n)) i) z
+  -- at the turn k of n
+  pub parameters_close : (n k i : ℕ) → mark_at marks i % 32 ≡ 4 → parameters_at marks ats (n - k) i ≡ Ok i
+  parameters_close n k i z = go (n - k)
+    where
+      go : (m : ℕ) → parameters_at marks ats m i ≡ Ok i
+      go zero = parameters_last i ∙ ap (λ b. pick_p b Ok (seq_p (parameter_at marks ats 0) (wrong_at ats)) i) (eq-eqb _ _ z)
+      go (suc m) = parameters_step m i ∙ ap (λ b. pick_p b Ok (seq_p (parameter_at marks ats 1) (parameters_at marks ats m)) i) (eq-eqb _ _ z)
 
-  pub parameters_on : {n : ℕ} → 0 < n → (i : ℕ) → eqb (mark_at marks i % 32) 4 ≡ false → parameters_at marks ats n i ≡ on_past (parameters_at marks ats (n - 1)) (parameter_at marks ats 1 i)
-  parameters_on {n = zero} h i z = let x : ⊥ = omega arith in absurd x
-  parameters_on {n = suc n} h i z =
-      let d : suc n - 1 ≡ n = omega arith in
-      rw d (parameters_step n i ∙ ap (λ b. pick_p b Past (seq_p (parameter_at marks ats 1) (parameters_at marks ats n)) i) z)
+  pub parameters_on : (n k i : ℕ) → k < n → (mark_at marks i % 32 ≡ 4 → ⊥) → parameters_at marks ats (n - k) i ≡ on_past (parameters_at marks ats (n - (k + 1))) (parameter_at marks ats 1 i)
+  parameters_on n k i h z =
+      let d : n - k ≡ suc (n - (k + 1)) = omega arith in
+      rw d (parameters_step (n - (k + 1)) i ∙ ap (λ b. pick_p b Ok (seq_p (parameter_at marks ats 1) (parameters_at marks ats (n - (k + 1)))) i) (ne_eqb _ _ z))
 
-  pub parameters_full : {n : ℕ} → n ≤ 0 → (i : ℕ) → eqb (mark_at marks i % 32) 4 ≡ false → parameters_at marks ats n i ≡ on_past (wrong_at ats) (parameter_at marks ats 0 i)
-  parameters_full {n = suc n} h i z = let x : ⊥ = omega arith in absurd x
-  parameters_full {n = zero} h i z = parameters_last i ∙ ap (λ b. pick_p b Past (seq_p (parameter_at marks ats 0) (wrong_at ats)) i) z
+  pub parameters_full : (n k i : ℕ) → n ≤ k → (mark_at marks i % 32 ≡ 4 → ⊥) → parameters_at marks ats (n - k) i ≡ on_past (wrong_at ats) (parameter_at marks ats 0 i)
+  parameters_full n k i h z =
+      let d : n - k ≡ 0 = omega arith in
+      rw d (parameters_last i ∙ ap (λ b. pick_p b Ok (seq_p (parameter_at marks ats 0) (wrong_at ats)) i) (ne_eqb _ _ z))
 
   pub definition_opens : (room i : ℕ) → definition_at marks ats room i ≡
       on_past (the_in_at marks ats 1 2) (on_past (term_at marks ats 63) (on_past (the_in_at marks ats 1 4) (on_past (parameters_at marks ats 16)
@@ -61,27 +65,31 @@ module _ (marks ats : List ℕ) where
       ∙ on_seq ps rest listed
       ∙ on_seq3 (the_in_at marks ats 1 4) t (the_in_at marks ats 1 2) (on_past ps listed)
 
-  definitions_step : (n i : ℕ) → definitions_at marks ats (suc n) i ≡ pick_p (eqb (mark_at marks i % 32) 0) Past (seq_p (definition_at marks ats 1) (definitions_at marks ats n)) i
+  definitions_step : (n i : ℕ) → definitions_at marks ats (suc n) i ≡ pick_p (eqb (mark_at marks i % 32) 0) Ok (seq_p (definition_at marks ats 1) (definitions_at marks ats n)) i
   unfolding definitions_at definitions_p definition_at
   definitions_step n i = refl
 
-  definitions_last : (i : ℕ) → definitions_at marks ats 0 i ≡ pick_p (eqb (mark_at marks i % 32) 0) Past (seq_p (definition_at marks ats 0) (wrong_at ats)) i
+  definitions_last : (i : ℕ) → definitions_at marks ats 0 i ≡ pick_p (eqb (mark_at marks i % 32) 0) Ok (seq_p (definition_at marks ats 0) (wrong_at ats)) i
   unfolding definitions_at definitions_p definition_at
   definitions_last i = refl
 
-  pub definitions_close : (n i : ℕ) → eqb (mark_at marks i % 32) 0 ≡ true → definitions_at marks ats n i ≡ Past i
-  definitions_close zero i z = definitions_last i ∙ ap (λ b. pick_p b Past (seq_p (definition_at marks ats 0) (wrong_at ats)) i) z
-  definitions_close (suc n) i z = definitions_step n i ∙ ap (λ b. pick_p b Past (seq_p (definition_at marks ats 1) (definitions_at marks ats n)) i) z
+  -- at the turn k of n
+  pub definitions_close : (n k i : ℕ) → mark_at marks i % 32 ≡ 0 → definitions_at marks ats (n - k) i ≡ Ok i
+  definitions_close n k i z = go (n - k)
+    where
+      go : (m : ℕ) → definitions_at marks ats m i ≡ Ok i
+      go zero = definitions_last i ∙ ap (λ b. pick_p b Ok (seq_p (definition_at marks ats 0) (wrong_at ats)) i) (eq-eqb _ _ z)
+      go (suc m) = definitions_step m i ∙ ap (λ b. pick_p b Ok (seq_p (definition_at marks ats 1) (definitions_at marks ats m)) i) (eq-eqb _ _ z)
 
-  pub definitions_on : {n : ℕ} → 0 < n → (i : ℕ) → eqb (mark_at marks i % 32) 0 ≡ false → definitions_at marks ats n i ≡ on_past (definitions_at marks ats (n - 1)) (definition_at marks ats 1 i)
-  definitions_on {n = zero} h i z = let x : ⊥ = omega arith in absurd x
-  definitions_on {n = suc n} h i z =
-      let d : suc n - 1 ≡ n = omega arith in
-      rw d (definitions_step n i ∙ ap (λ b. pick_p b Past (seq_p (definition_at marks ats 1) (definitions_at marks ats n)) i) z)
+  pub definitions_on : (n k i : ℕ) → k < n → (mark_at marks i % 32 ≡ 0 → ⊥) → definitions_at marks ats (n - k) i ≡ on_past (definitions_at marks ats (n - (k + 1))) (definition_at marks ats 1 i)
+  definitions_on n k i h z =
+      let d : n - k ≡ suc (n - (k + 1)) = omega arith in
+      rw d (definitions_step (n - (k + 1)) i ∙ ap (λ b. pick_p b Ok (seq_p (definition_at marks ats 1) (definitions_at marks ats (n - (k + 1)))) i) (ne_eqb _ _ z))
 
-  pub definitions_full : {n : ℕ} → n ≤ 0 → (i : ℕ) → eqb (mark_at marks i % 32) 0 ≡ false → definitions_at marks ats n i ≡ on_past (wrong_at ats) (definition_at marks ats 0 i)
-  definitions_full {n = suc n} h i z = let x : ⊥ = omega arith in absurd x
-  definitions_full {n = zero} h i z = definitions_last i ∙ ap (λ b. pick_p b Past (seq_p (definition_at marks ats 0) (wrong_at ats)) i) z
+  pub definitions_full : (n k i : ℕ) → n ≤ k → (mark_at marks i % 32 ≡ 0 → ⊥) → definitions_at marks ats (n - k) i ≡ on_past (wrong_at ats) (definition_at marks ats 0 i)
+  definitions_full n k i h z =
+      let d : n - k ≡ 0 = omega arith in
+      rw d (definitions_last i ∙ ap (λ b. pick_p b Ok (seq_p (definition_at marks ats 0) (wrong_at ats)) i) (ne_eqb _ _ z))
 
   pub program_opens : (i : ℕ) → program_at marks ats i ≡ on_past (definitions_at marks ats 63) (definition_at marks ats 1 i)
   unfolding program_at program_p definitions_at definition_at
@@ -93,57 +101,57 @@ module _ (marks ats : List ℕ) where
   unfolding sides_at tree_at
   sides_opens i = on_seq3 (tree_at marks ats 3 4 61) (tree_at marks ats 3 4 61) (the_in_at marks ats 1 4) (the_in_at marks ats 1 3 i)
 
-  pub pairs_end : {n : ℕ} → n ≤ 0 → (i : ℕ) → pairs_at marks ats n i ≡ wrong_at ats i
-  unfolding pairs_at
-  pairs_end {n = zero} h i = refl
-  pairs_end {n = suc n} h i = let z : ⊥ = omega arith in absurd z
-
-  pairs_step : (n i : ℕ) → pairs_at marks ats (suc n) i ≡ pick_p (eqb (mark_at marks i % 32) 2) Past (seq_p (sides_at marks ats) (pairs_at marks ats n)) i
+  pairs_step : (n i : ℕ) → pairs_at marks ats (suc n) i ≡ pick_p (eqb (mark_at marks i % 32) 2) Ok (seq_p (sides_at marks ats) (pairs_at marks ats n)) i
   unfolding pairs_at
   pairs_step n i = refl
 
-  pub pairs_close : {n : ℕ} → 0 < n → (i : ℕ) → eqb (mark_at marks i % 32) 2 ≡ true → pairs_at marks ats n i ≡ Past i
-  pairs_close {n = zero} h i z = let x : ⊥ = omega arith in absurd x
-  pairs_close {n = suc n} h i z = pairs_step n i ∙ ap (λ b. pick_p b Past (seq_p (sides_at marks ats) (pairs_at marks ats n)) i) z
+  -- at the turn k of n
+  pub pairs_end : (n k i : ℕ) → n ≤ k → pairs_at marks ats (n - k) i ≡ wrong_at ats i
+  unfolding pairs_at
+  pairs_end n k i h = let d : n - k ≡ 0 = omega arith in rw d
 
-  pub pairs_on : {n : ℕ} → 0 < n → (i : ℕ) → eqb (mark_at marks i % 32) 2 ≡ false → pairs_at marks ats n i ≡ on_past (pairs_at marks ats (n - 1)) (sides_at marks ats i)
-  pairs_on {n = zero} h i z = let x : ⊥ = omega arith in absurd x
-  pairs_on {n = suc n} h i z =
-      let d : suc n - 1 ≡ n = omega arith in
-      rw d (pairs_step n i ∙ ap (λ b. pick_p b Past (seq_p (sides_at marks ats) (pairs_at marks ats n)) i) z)
+  pub pairs_close : (n k i : ℕ) → k < n → mark_at marks i % 32 ≡ 2 → pairs_at marks ats (n - k) i ≡ Ok i
+  pairs_close n k i h z =
+      let d : n - k ≡ suc (n - (k + 1)) = omega arith in
+      rw d (pairs_step (n - (k + 1)) i ∙ ap (λ b. pick_p b Ok (seq_p (sides_at marks ats) (pairs_at marks ats (n - (k + 1)))) i) (eq-eqb _ _ z))
 
-  part_opens : (w : ℕ) (p : ℕ → Got) (g : Got) → on_past (part_at marks ats w p) g ≡ on_past (the_in_at marks ats 1 2) (on_past p (on_past (the_in_at marks ats 1 w) (on_past (the_in_at marks ats 1 1) g)))
-  part_opens w p g = on_seq4 (the_in_at marks ats 1 1) (the_in_at marks ats 1 w) p (the_in_at marks ats 1 2) g
+  pub pairs_on : (n k i : ℕ) → k < n → (mark_at marks i % 32 ≡ 2 → ⊥) → pairs_at marks ats (n - k) i ≡ on_past (pairs_at marks ats (n - (k + 1))) (sides_at marks ats i)
+  pairs_on n k i h z =
+      let d : n - k ≡ suc (n - (k + 1)) = omega arith in
+      rw d (pairs_step (n - (k + 1)) i ∙ ap (λ b. pick_p b Ok (seq_p (sides_at marks ats) (pairs_at marks ats (n - (k + 1)))) i) (ne_eqb _ _ z))
 
-  pub inputs_open : (g : Got) → on_past (inputs_at marks ats) g ≡
-      on_past (the_in_at marks ats 1 2) (on_past (λ k. trees_at marks ats 2 3 4 62 (4097 - k) k) (on_past (the_in_at marks ats 1 12) (on_past (the_in_at marks ats 1 1) g)))
+  part_opens : (w : ℕ) (p : ℕ → Result ℕ Refusal) (i : ℕ) → part_at marks ats w p i ≡ on_past (the_in_at marks ats 1 2) (on_past p (on_past (the_in_at marks ats 1 w) (the_in_at marks ats 1 1 i)))
+  part_opens w p i = on_seq3 (the_in_at marks ats 1 w) p (the_in_at marks ats 1 2) (the_in_at marks ats 1 1 i)
+
+  pub inputs_open : (i : ℕ) → inputs_at marks ats i ≡
+      on_past (the_in_at marks ats 1 2) (on_past (λ k. trees_at marks ats 2 3 4 62 (4097 - k) k) (on_past (the_in_at marks ats 1 12) (the_in_at marks ats 1 1 i)))
   unfolding inputs_at
-  inputs_open g = part_opens 12 (λ k. trees_at marks ats 2 3 4 62 (4097 - k) k) g
+  inputs_open i = part_opens 12 (λ k. trees_at marks ats 2 3 4 62 (4097 - k) k) i
 
-  pub output_opens : (g : Got) → on_past (output_at marks ats) g ≡
-      on_past (the_in_at marks ats 1 2) (on_past (tree_at marks ats 3 4 62) (on_past (the_in_at marks ats 1 13) (on_past (the_in_at marks ats 1 1) g)))
+  pub output_opens : (i : ℕ) → output_at marks ats i ≡
+      on_past (the_in_at marks ats 1 2) (on_past (tree_at marks ats 3 4 62) (on_past (the_in_at marks ats 1 13) (the_in_at marks ats 1 1 i)))
   unfolding output_at
-  output_opens g = part_opens 13 (tree_at marks ats 3 4 62) g
+  output_opens i = part_opens 13 (tree_at marks ats 3 4 62) i
 
-  pub non_equalities_open : (g : Got) → on_past (non_equalities_at marks ats) g ≡
-      on_past (the_in_at marks ats 1 2) (on_past (λ k. pairs_at marks ats (4097 - k) k) (on_past (the_in_at marks ats 1 14) (on_past (the_in_at marks ats 1 1) g)))
+  pub non_equalities_open : (i : ℕ) → non_equalities_at marks ats i ≡
+      on_past (the_in_at marks ats 1 2) (on_past (λ k. pairs_at marks ats (4097 - k) k) (on_past (the_in_at marks ats 1 14) (the_in_at marks ats 1 1 i)))
   unfolding non_equalities_at
-  non_equalities_open g = part_opens 14 (λ k. pairs_at marks ats (4097 - k) k) g
+  non_equalities_open i = part_opens 14 (λ k. pairs_at marks ats (4097 - k) k) i
 
-  pub numeral_opens : (w : ℕ) (g : Got) → on_past (numeral_at marks ats w) g ≡
-      on_past (the_in_at marks ats 1 2) (on_past (one_of_at marks ats 1 5) (on_past (the_in_at marks ats 1 w) (on_past (the_in_at marks ats 1 1) g)))
+  pub numeral_opens : (w i : ℕ) → numeral_at marks ats w i ≡
+      on_past (the_in_at marks ats 1 2) (on_past (one_of_at marks ats 1 5) (on_past (the_in_at marks ats 1 w) (the_in_at marks ats 1 1 i)))
   unfolding numeral_at
-  numeral_opens w g = part_opens w (one_of_at marks ats 1 5) g
+  numeral_opens w i = part_opens w (one_of_at marks ats 1 5) i
 
-  end_opens : (i : ℕ) → end_at marks ats i ≡ pick_p (eqb (mark_at marks i % 32) 0) Past (wrong_at ats) i
+  end_opens : (i : ℕ) → end_at marks ats i ≡ pick_p (eqb (mark_at marks i % 32) 0) Ok (wrong_at ats) i
   unfolding end_at
   end_opens i = refl
 
-  pub end_there : (i : ℕ) → eqb (mark_at marks i % 32) 0 ≡ true → end_at marks ats i ≡ Past i
-  end_there i z = end_opens i ∙ ap (λ b. pick_p b Past (wrong_at ats) i) z
+  pub end_there : (i : ℕ) → mark_at marks i % 32 ≡ 0 → end_at marks ats i ≡ Ok i
+  end_there i z = end_opens i ∙ ap (λ b. pick_p b Ok (wrong_at ats) i) (eq-eqb _ _ z)
 
-  pub end_missing : (i : ℕ) → eqb (mark_at marks i % 32) 0 ≡ false → end_at marks ats i ≡ wrong_at ats i
-  end_missing i z = end_opens i ∙ ap (λ b. pick_p b Past (wrong_at ats) i) z
+  pub end_missing : (i : ℕ) → (mark_at marks i % 32 ≡ 0 → ⊥) → end_at marks ats i ≡ wrong_at ats i
+  end_missing i z = end_opens i ∙ ap (λ b. pick_p b Ok (wrong_at ats) i) (ne_eqb _ _ z)
 
   pub job_opens : (i : ℕ) → job_at marks ats i ≡
       on_past (end_at marks ats) (on_past (the_in_at marks ats 1 2) (on_past (numeral_at marks ats 17) (on_past (numeral_at marks ats 16) (on_past (numeral_at marks ats 15)

@@ -1,11 +1,11 @@
-// What a reader sees of a stored token: its key, its kind, how it fits, whether it is one too many, its offset (specs/twins/Stored.antt).
+// What a reader sees of a stored token: its key, its kind, how it fits, whether it is one too many, its offset (specs/Twins/Stored.antt).
 ghost use Rattle.std.specs.Prelude.{◌≡◌, ◌%◌};
 ghost use Rattle.words.specs.Twins.Marks.{kind_tag, fit_at, over_mark, fit_tag};
 ghost use Rattle.grammar.specs.Twins.Stored.{mark_at, offset_at};
 ghost use Rattle.grammar.specs.Twins.Positions.{judged_at};
 
 use cells::cell::cell;
-use words::got::Got;
+use refusals::refusal::Refusal;
 
 // The mark past the end of the storage: no fixed word, a plain word that is broken, and one too many. No reader passes it.
 const NOTHING: u16 = 1458;
@@ -48,21 +48,21 @@ pub fn offset(ats: &[u16], i: usize) -> usize
 }
 
 // "3, 4, 5 at the earliest token": a token that fits so in its place is passed, or refused.
-pub fn judged(marks: &[u16], ats: &[u16], fit: u16, i: usize) -> Got
+pub fn judged(marks: &[u16], ats: &[u16], fit: u16, i: usize) -> Result<usize, Refusal>
     ensures { result ≡ judged_at (fit_at fit) (over_mark (mark_at marks.now i)) (offset_at ats.now i) i }
 {
     let offset = offset(ats, i);
     if fit == 1 {
-        return Got::Refused { number: 3, offset };
+        return Err(Refusal { number: 3, offset });
     }
     if fit == 2 {
-        return Got::Refused { number: 4, offset };
+        return Err(Refusal { number: 4, offset });
     }
     if 3 <= fit {
-        return Got::Refused { number: 5, offset };
+        return Err(Refusal { number: 5, offset });
     }
     if 1024 <= mark(marks, i) {
-        return Got::Refused { number: 5, offset };
+        return Err(Refusal { number: 5, offset });
     }
-    Got::Past(i + 1)
+    Ok(i + 1)
 }

@@ -2,8 +2,7 @@
 ghost use Rattle.std.specs.Prelude.{◌≡◌};
 ghost use Rattle.heap.specs.Twins.Moving.{grown_by, restricted_by};
 
-use restrictions::restriction::Restricted;
-use sets::fill::Filled;
+use restrictions::failure::Failure;
 
 // How many entries there are, of them inputs and wanted outputs; what is used of the heap; the non-equalities; the term's place; the counter.
 #[derive(Clone, Copy)]
@@ -17,13 +16,6 @@ pub struct Configuration {
     pub counter: u16,
 }
 
-#[derive(Drop)]
-pub enum Moved {
-    On(Configuration),
-    Contradiction,
-    Over,
-}
-
 // Which of a condition's two branches there are: "A branch that contradicts is no transition."
 #[derive(Clone, Copy)]
 pub struct Branches {
@@ -32,30 +24,17 @@ pub struct Branches {
 }
 
 // The configuration with what is used and the non-equalities as they are now.
-pub fn grown(c: Configuration, neqs: usize, w: Filled) -> Moved
+pub fn grown(c: Configuration, neqs: usize, w: Option<usize>) -> Result<Configuration, Failure>
     ensures { result ≡ grown_by c neqs w }
 {
-    match w {
-        Filled::Done(k) => Moved::On(Configuration {
-            inputs: c.inputs,
-            outputs: c.outputs,
-            entries: c.entries,
-            used: k,
-            neqs: neqs,
-            place: c.place,
-            counter: c.counter,
-        }),
-        Filled::Over => Moved::Over,
-    }
+    let used = w.ok_or(Failure::Over)?;
+    Ok(Configuration { used, neqs, ..c })
 }
 
 // What is left of the non-equalities decides.
-pub fn restricted(c: Configuration, r: Restricted) -> Moved
+pub fn restricted(c: Configuration, r: Result<usize, Failure>) -> Result<Configuration, Failure>
     ensures { result ≡ restricted_by c r }
 {
-    match r {
-        Restricted::Kept(n) => grown(c, n, Filled::Done(c.used)),
-        Restricted::Contradiction => Moved::Contradiction,
-        Restricted::Full => Moved::Over,
-    }
+    let neqs = r?;
+    Ok(Configuration { neqs, ..c })
 }

@@ -8,9 +8,8 @@ use cells::cell;
 use codes::known::{closed, known_after};
 use codes::outcome::Replaced;
 use runs::run;
-use sets::fill::Filled;
 
-// The entry i by what became of its range: its new range where it was filled. Done: what is used then.
+// The entry i by what became of its range: its new range where it was filled. What is used then.
 fn entered(
     frame: &mut [u16; 12360],
     i: usize,
@@ -18,21 +17,21 @@ fn entered(
     size: usize,
     used: usize,
     w: Replaced,
-) -> Filled
+) -> Option<usize>
     requires { i < 4120 }
     ensures { fill_answer result frame.new ≡ entered_frame i known size used w frame.old }
 {
     match w {
         Replaced::Closed => {
             frame[3 * i] = closed(known);
-            Filled::Done(used)
+            Some(used)
         }
-        Replaced::Open => Filled::Done(used),
+        Replaced::Open => Some(used),
         Replaced::Done(k) => {
             entry::put_entry(frame, i, known_after(known, size), used, k);
-            Filled::Done(k)
+            Some(k)
         }
-        Replaced::Over => Filled::Over,
+        Replaced::Over => None,
     }
 }
 
@@ -46,7 +45,7 @@ fn contract_leaf(frame: &mut [u16; 12360], i: usize, code: u16, x: u16, vfrom: u
     }
 }
 
-// The entry i with the run from `vfrom` up to `vto` in the place of each x. Done: what is used then.
+// The entry i with the run from `vfrom` up to `vto` in the place of each x. What is used then.
 pub(crate) fn contract_entry(
     heap: &mut [u16; 65535],
     frame: &mut [u16; 12360],
@@ -55,23 +54,23 @@ pub(crate) fn contract_entry(
     vfrom: usize,
     vto: usize,
     used: usize,
-) -> Filled
+) -> Option<usize>
     requires { i < 4120 }
     ensures { stores result heap.new frame.new ≡ contracted_entry i x vfrom vto used heap.old frame.old }
 {
     let known = frame[3 * i];
     if known % 2 == 1 {
-        return Filled::Done(used);
+        return Some(used);
     }
-    let from = cell::wide(frame[3 * i + 1]);
-    let to = cell::wide(frame[3 * i + 2]);
-    if cell::less(to, from) == 1 {
+    let from = usize::from(frame[3 * i + 1]);
+    let to = usize::from(frame[3 * i + 2]);
+    if to.saturating_sub(from) == 1 {
         let code = cell::cell(heap, from);
         contract_leaf(frame, i, code, x, vfrom, vto);
-        return Filled::Done(used);
+        return Some(used);
     }
     let w = run::replace(heap, from, to, x, vfrom, vto, used);
-    entered(frame, i, known, cell::less(vto, vfrom), used, w)
+    entered(frame, i, known, vto.saturating_sub(vfrom), used, w)
 }
 
 // The same for the entries from `first` on, before `last`.
@@ -84,23 +83,13 @@ pub fn contract_entries(
     vfrom: usize,
     vto: usize,
     used: usize,
-) -> Filled
+) -> Option<usize>
     ensures { stores result heap.new frame.new ≡ contracted_entries first last x vfrom vto used heap.old frame.old }
 {
-    let end = cell::least(last, entry::ENTRIES);
+    let end = last.min(entry::ENTRIES);
     let mut now = used;
-    let mut i = first;
-    while i < end {
-        let w = contract_entry(heap, frame, i, x, vfrom, vto, now);
-        match w {
-            Filled::Done(k) => {
-                now = k;
-                i += 1;
-            }
-            Filled::Over => {
-                return Filled::Over;
-            }
-        }
+    for i in first..end {
+        now = contract_entry(heap, frame, i, x, vfrom, vto, now)?;
     }
-    Filled::Done(now)
+    Some(now)
 }

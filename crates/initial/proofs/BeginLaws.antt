@@ -7,6 +7,7 @@ use mathlib.Core.Option.{Option, none, some}
 use mathlib.Core.Logic.{◌⊎◌, inl, inr}
 use native.Mathlib.Omega.{arith}
 use lib.ListN.{length, length-append}
+use Rattle.std.specs.Prelude.{Ok, Err}
 use Rattle.expressions.specs.Expression.{Exp, atm, evar, pair}
 use Rattle.expressions.specs.Restriction.{Restriction, simplify}
 use Rattle.expressions.specs.Class.{IOClass}
@@ -35,7 +36,7 @@ use Rattle.layout.specs.Twins.Fresh.{first_fresh_cells}
 use Rattle.layout.specs.Twins.Laying.{job_laid, parts_of, sides_taken}
 use Rattle.initial.specs.Twins.Beginning.{EnterLeft, begun_entered, BegunLeft, besides, sides_begun, begun_at, job_entered}
 use Rattle.layout.specs.declared.job.Parts.{Parts}
-use Rattle.initial.specs.declared.begin.Begun.TheVariants.{On, None, Over}
+use Rattle.restrictions.specs.declared.failure.Failure.TheVariants.{Contradiction, Over}
 use Rattle.initial.proofs.EnterLaws.{JobOutcome, EntersJob, job_enters}
 use Rattle.initial.proofs.JobLaws.{input_cells, side_cells, io_size, job_heap, laid_of, laid_whole, laid_inputs, laid_output, laid_fresh, sides_mean, sides_size}
 
@@ -72,14 +73,14 @@ module _ (p : Prog) (bodies : ℕ → ℕ) (code : List ℕ) where
   -- The storages hold K, and the answer counts it.
   pub record Begins (K : Configuration) (w : BegunLeft) : Type 0 where
     pub at : InCells
-    pub on : w.answer ≡ On at
+    pub on : w.answer ≡ Ok at
     pub stands : Stands p bodies code w.heap w.frame w.q at K
     pub few : at.used ≤ 4096
 
   -- "A contradictory job has no start"; what does not fit has more than 4,096 nodes, also without a wanted output of one.
   abbrev pub BeginsAs : Option Configuration → BegunLeft → Type 0
-  BeginsAs none w = w.answer ≡ None
-  BeginsAs (some K) w = ((w.answer ≡ Over) × (4097 < nodes_state K.cr)) ⊎ Begins (in_main p K) w
+  BeginsAs none w = w.answer ≡ Err Contradiction
+  BeginsAs (some K) w = ((w.answer ≡ Err Over) × (4097 < nodes_state K.cr)) ⊎ Begins (in_main p K) w
 
   module _ (linked : ProgramLinked p bodies code) (formed : admitted p ≡ true) (P : IOClass) (fit : fits (find p 0).params P.con.ins ≡ true)
       (h f q : List ℕ) (h-size : length h ≡ 65535) (f-size : length f ≡ 12360) (q_size : length q ≡ 4096)
@@ -147,7 +148,7 @@ module _ (p : Prog) (bodies : ℕ → ℕ) (code : List ℕ) where
           })
 
       entered : (w : EnterLeft) → JobOutcome g size ins P.con.out w →
-          (let u = besides g q2 (begun_entered (bodies 0) size (length qs) next w) in ((u.answer ≡ Over) × (4097 < nodes_state (pair₁ qs))) ⊎ Begins main u)
+          (let u = besides g q2 (begun_entered (bodies 0) size (length qs) next w) in ((u.answer ≡ Err Over) × (4097 < nodes_state (pair₁ qs))) ⊎ Begins main u)
       entered w (inl o) = rw o.0 (inl (refl, too_many qs o.1))
       entered w (inr e) = inr (in_main_lem w e)
 

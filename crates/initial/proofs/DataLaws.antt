@@ -8,11 +8,11 @@ use lib.Dec.{eqb, ltb}
 use lib.ListN.{length, get_or, length-append}
 use lib.Seq.{sets}
 use borrow.Author.Tests.{eqb-true, eq-eqb, ne_eqb, lt-ltb, ltb-false}
+use Rattle.std.specs.Prelude.{Some}
 use Rattle.expressions.proofs.Predicates.{All}
 use Rattle.expressions.proofs.Numbers.{AtomicNumbers, ExpNumbers, NeqNumbers}
 use Rattle.sets.specs.Cells.{evar_code, symbol_code, avar_code, atomic_code, cells, cells_all, restriction_cells}
 use Rattle.sets.specs.Twins.Fill.{fill_answer}
-use Rattle.sets.specs.declared.fill.Filled.TheVariants.{Done}
 use Rattle.language.specs.Tokens.{tag, of_job, Token}
 use Rattle.language.specs.Reader.{is}
 use Rattle.language.specs.Program.{atom_of}
@@ -81,15 +81,15 @@ module _ (marks nums : List ℕ) where
   abbrev given : ℕ → List ℕ
   given = datum_cells marks nums
 
-  one_laid : (i k : ℕ) (h : List ℕ) → k + length (given i) ≤ 65535 → datum_written marks nums i k h ≡ fill_answer (Done (k + length (given i))) (sets h k (given i))
+  one_laid : (i k : ℕ) (h : List ℕ) → k + length (given i) ≤ 65535 → datum_written marks nums i k h ≡ fill_answer (Some (k + length (given i))) (sets h k (given i))
   unfolding datum_written
   one_laid i k h = pick (datum_cell marks nums i) (eqb (datum_cell marks nums i) 0)
     where
-      pick : (x : ℕ) (b : Bool) → k + length (cond b [] (x ∷ [])) ≤ 65535 → cond b (fill_answer (Done k) h) (written k 1 (x ∷ []) h) ≡ fill_answer (Done (k + length (cond b [] (x ∷ [])))) (sets h k (cond b [] (x ∷ [])))
+      pick : (x : ℕ) (b : Bool) → k + length (cond b [] (x ∷ [])) ≤ 65535 → cond b (fill_answer (Some k) h) (written k 1 (x ∷ []) h) ≡ fill_answer (Some (k + length (cond b [] (x ∷ [])))) (sets h k (cond b [] (x ∷ [])))
       pick x true l = let z : k + 0 ≡ k = omega arith in rw z
       pick x false l = written_done k 1 (x ∷ []) h l
 
-  all_laid : (left i k : ℕ) (h : List ℕ) → k + length (run_of given left i) ≤ 65535 → data_written marks nums left i k h ≡ fill_answer (Done (k + length (run_of given left i))) (sets h k (run_of given left i))
+  all_laid : (left i k : ℕ) (h : List ℕ) → k + length (run_of given left i) ≤ 65535 → data_written marks nums left i k h ≡ fill_answer (Some (k + length (run_of given left i))) (sets h k (run_of given left i))
   unfolding data_written
   all_laid zero i k h l = let z : k + 0 ≡ k = omega arith in rw z
   all_laid (suc left) i k h l =
@@ -100,7 +100,7 @@ module _ (marks nums : List ℕ) where
       let s : k + length v + length w ≡ k + length (v ++ w) = omega arith in
       rw (one_laid i k h (omega arith), again, sets_append h k v w, s)
 
-  pub run_laid : {i k : ℕ} {l : List ℕ} → Run given i k l → (at : ℕ) (h : List ℕ) → at + length l ≤ 65535 → data_written marks nums (k - i) i at h ≡ fill_answer (Done (at + length l)) (sets h at l)
+  pub run_laid : {i k : ℕ} {l : List ℕ} → Run given i k l → (at : ℕ) (h : List ℕ) → at + length l ≤ 65535 → data_written marks nums (k - i) i at h ≡ fill_answer (Some (at + length l)) (sets h at l)
   run_laid {i} {k} {l} u at h fits =
       let e = u.end in
       let m : k - i ≡ u.left = omega arith in

@@ -6,29 +6,28 @@ use mathlib.Core.Logic.{◌⊎◌, inl, inr}
 use native.Mathlib.Omega.{arith}
 use native.Mathlib.Decide.{dec_le}
 use lib.ListN.{length}
+use Rattle.std.specs.Prelude.{Some, None}
 use Rattle.expressions.specs.Expression.{Exp}
 use Rattle.sets.specs.Cells.{cells_all}
 use Rattle.runs.specs.Twins.Runs.{run}
 use Rattle.heap.specs.Twins.Entries.{PushAnswer, entry, pushed}
-use Rattle.heap.specs.declared.entry.Pushed.TheVariants.{Done}
 use Rattle.runs.proofs.RunLaws.{below_self}
 use Rattle.heap.proofs.HeapLaws.{Holds}
 use Rattle.heap.proofs.FrameLaws.{Held, held_front, entry_length}
 use Rattle.heap.proofs.FrameLaws as frame
 use Rattle.heap.proofs.PartLaws.{held_joined}
 use Rattle.initial.specs.Twins.Trees.{trees_entered}
-use Rattle.initial.specs.Twins.Beginning.{EnterLeft, entered_left, behind_output, behind_inputs, job_entered}
-use Rattle.initial.specs.declared.begin.Entered.TheVariants.{Done as In, Full as NotIn}
+use Rattle.initial.specs.Twins.Beginning.{counted, EnterLeft, entered_left, behind_output, behind_inputs, job_entered}
 use Rattle.initial.proofs.InitialTurns.{pushed_full, pushed_on}
 use Rattle.initial.proofs.TreeLaws.{Outcome, trees_mean, entry_holds, entry_knows, entry_below}
 
 pub record EntersJob (h : List ℕ) (used : ℕ) (ins : List Exp) (out : Exp) (w : EnterLeft) : Type 0 where
-  pub done : w.answer ≡ In (length ins) (length ins + 1 + length ins)
+  pub done : w.answer ≡ Some (counted (length ins) (length ins + 1 + length ins))
   pub holds : Held h used w.frame 0 (ins ++ (out ∷ ins))
   pub size : length w.frame ≡ 12360
 
 abbrev pub JobOutcome : List ℕ → ℕ → List Exp → Exp → EnterLeft → Type 0
-JobOutcome h used ins out w = ((w.answer ≡ NotIn) × (4120 < length ins + 1 + length ins)) ⊎ EntersJob h used ins out w
+JobOutcome h used ins out w = ((w.answer ≡ None) × (4120 < length ins + 1 + length ins)) ⊎ EntersJob h used ins out w
 
 module _ (h : List ℕ) (used : ℕ) (whole : length h ≡ 65535) (in_heap_lem : used ≤ 65535) (ins : List Exp) (out : Exp) (a b : ℕ) (low : a ≤ used)
     (inputs : run 0 a h ≡ cells_all ins) (output : Holds h used a b out) where
@@ -66,7 +65,7 @@ module _ (h : List ℕ) (used : ℕ) (whole : length h ≡ 65535) (in_heap_lem :
   all f w long (inl o) = rw o.0 (inl (refl, omega (arith, o.1)))
   all f w long (inr e) =
       let z : 0 + n ≡ n = omega arith in
-      let d : w.answer ≡ Done n = e.done ∙ ap Done z in
+      let d : w.answer ≡ Some n = e.done ∙ ap Some z in
       rw d (outputs w.frame (e.size ∙ long) e.holds (dec_le 4120 n))
 
   pub job_enters : (f : List ℕ) → length f ≡ 12360 → JobOutcome h used ins out (job_entered a b h f)

@@ -8,6 +8,7 @@ use native.Mathlib.Omega.{arith}
 use lib.ListN.{length, take, drop, length-append, length-drop}
 use lib.Seq.{sets, length-sets, take_at}
 use borrow.Author.Tests.{le-leb}
+use Rattle.std.specs.Prelude.{Some}
 use Rattle.expressions.specs.Expression.{sym, Exp, atm}
 use Rattle.expressions.specs.Restriction.{simplify}
 use Rattle.expressions.specs.Class.{IOClass}
@@ -15,7 +16,6 @@ use Rattle.expressions.specs.Split.{first_fresh}
 use Rattle.sets.specs.Twins.Copying.{copied}
 use Rattle.sets.specs.Cells.{cells, cells_all, restriction_cells}
 use Rattle.sets.specs.Twins.Fill.{fill_answer}
-use Rattle.sets.specs.declared.fill.Filled.TheVariants.{Done}
 use Rattle.sets.proofs.CellLaws.{restriction_cells_nodes}
 use Rattle.restrictions.proofs.RestrictionLaws.{Answers, simplify_cells_means}
 use Rattle.syntax.specs.declared.job_ends.JobEnds.{JobEnds}
@@ -24,7 +24,6 @@ use Rattle.runs.proofs.RunLaws.{written_done, sets_append, run_drop}
 use Rattle.heap.proofs.HeapLaws.{Holds, sets_cells}
 use Rattle.layout.specs.Twins.Fresh.{first_fresh_cells}
 use Rattle.layout.specs.Twins.Laying.{parts_of, LaidLeft, laid_left, output_laid, sides_laid, ends_laid, job_laid, sides_taken}
-use Rattle.layout.specs.declared.job.Laid.TheVariants.{Done as Lies}
 use Rattle.initial.proofs.DataLaws.{datum_cells, Run, run_laid}
 use Rattle.initial.proofs.FreshLaws.{fresh_means}
 use Rattle.initial.proofs.TreeLaws.{run_parts}
@@ -56,13 +55,13 @@ job_heap P h = sets h 0 (input_cells P ++ (output_cells P ++ side_cells P))
 
 -- the class P in the heap
 abbrev pub laid_of : IOClass → List ℕ → LaidLeft
-laid_of P h = laid_left (Lies (parts_of (length (input_cells P)) (io_size P) (io_size P + length (side_cells P)))) (job_heap P h)
+laid_of P h = laid_left (Some (parts_of (length (input_cells P)) (io_size P) (io_size P + length (side_cells P)))) (job_heap P h)
 
 module _ (jmarks jnums : List ℕ) (e : JobEnds) where
   -- the inputs, then what stands behind them
   ends_laid_lem : (r : Bool) (P : IOClass) (h : List ℕ) → Run (datum_cells jmarks jnums) 4 e.ins (input_cells P) → io_size P + length (side_cells P) ≤ 65535 →
-      (output_laid jmarks jnums e (length (input_cells P)) r (sets h 0 (input_cells P)) ≡ fill_answer (Done (io_size P)) (sets (sets h 0 (input_cells P)) (length (input_cells P)) (output_cells P))) →
-      ((g : List ℕ) → sides_laid jmarks jnums e (io_size P) r g ≡ fill_answer (Done (io_size P + length (side_cells P))) (sets g (io_size P) (side_cells P))) →
+      (output_laid jmarks jnums e (length (input_cells P)) r (sets h 0 (input_cells P)) ≡ fill_answer (Some (io_size P)) (sets (sets h 0 (input_cells P)) (length (input_cells P)) (output_cells P))) →
+      ((g : List ℕ) → sides_laid jmarks jnums e (io_size P) r g ≡ fill_answer (Some (io_size P + length (side_cells P))) (sets g (io_size P) (side_cells P))) →
       job_laid jmarks jnums e r h ≡ laid_of P h
   unfolding job_laid ends_laid
   ends_laid_lem r P h inputs room output sides =
@@ -76,20 +75,20 @@ module _ (jmarks jnums : List ℕ) (e : JobEnds) where
       rw (run_laid jmarks jnums inputs 0 h (omega arith), z, output, sides (sets (sets h 0 A) (length A) B), one, two)
 
   module _ {P : IOClass} (job : JobHere jmarks jnums e P) (at : ℕ) (g : List ℕ) where
-    output_laid_lem : at + length (output_cells P) ≤ 65535 → output_laid jmarks jnums e at false g ≡ fill_answer (Done (at + length (output_cells P))) (sets g at (output_cells P))
+    output_laid_lem : at + length (output_cells P) ≤ 65535 → output_laid jmarks jnums e at false g ≡ fill_answer (Some (at + length (output_cells P))) (sets g at (output_cells P))
     unfolding output_laid
     output_laid_lem l = run_laid jmarks jnums job.output at g l
 
-    sides_laid_lem : at + length (side_cells P) ≤ 65535 → sides_laid jmarks jnums e at false g ≡ fill_answer (Done (at + length (side_cells P))) (sets g at (side_cells P))
+    sides_laid_lem : at + length (side_cells P) ≤ 65535 → sides_laid jmarks jnums e at false g ≡ fill_answer (Some (at + length (side_cells P))) (sets g at (side_cells P))
     unfolding sides_laid
     sides_laid_lem l = run_laid jmarks jnums job.sides at g l
 
   module _ (at : ℕ) (g : List ℕ) where
-    zero_laid : at + 1 ≤ 65535 → output_laid jmarks jnums e at true g ≡ fill_answer (Done (at + 1)) (sets g at (1 ∷ []))
+    zero_laid : at + 1 ≤ 65535 → output_laid jmarks jnums e at true g ≡ fill_answer (Some (at + 1)) (sets g at (1 ∷ []))
     unfolding output_laid
     zero_laid l = written_done at 1 (1 ∷ []) g l
 
-    none_laid : sides_laid jmarks jnums e at true g ≡ fill_answer (Done (at + 0)) g
+    none_laid : sides_laid jmarks jnums e at true g ≡ fill_answer (Some (at + 0)) g
     unfolding sides_laid
     none_laid = let z : at + 0 ≡ at = omega arith in rw z
 

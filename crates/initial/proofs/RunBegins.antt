@@ -33,7 +33,8 @@ use Rattle.semantics.proofs.Scopes.{WellScoped}
 use Rattle.linking.specs.Twins.Linked.{ProgramLinked}
 use Rattle.linking.specs.Twins.Places.{env_of}
 use Rattle.initial.specs.Twins.Beginning.{BegunLeft, begun_at}
-use Rattle.initial.specs.declared.begin.Begun.TheVariants.{Over}
+use Rattle.std.specs.Prelude.{Err}
+use Rattle.restrictions.specs.declared.failure.Failure.TheVariants.{Over}
 use Rattle.initial.proofs.DataLaws.{datum_cells, Run}
 use Rattle.initial.proofs.EmbedLaws.{noughts, ones, all_embed, bound_embed, all_largest, run_pair, run_nodes}
 use Rattle.initial.proofs.JobLaws.{run_class, run_job_laid}
@@ -59,10 +60,10 @@ run_scoped p vs formed fit = subst (λ (σ : ExpEnv). WellScoped p (find p 0).bo
 module _ (p : Prog) (bodies : ℕ → ℕ) (code : List ℕ) where
   -- what a run begins as: main's body, or what does not fit
   abbrev Out : Configuration → BegunLeft → Type 0
-  Out K w = ((w.answer ≡ Over) × (4097 < nodes_state K.cr)) ⊎ Begins p bodies code K w
+  Out K w = ((w.answer ≡ Err Over) × (4097 < nodes_state K.cr)) ⊎ Begins p bodies code K w
 
   abbrev pub RunsAs : List Value → BegunLeft → Type 0
-  RunsAs vs w = ((w.answer ≡ Over) × (4096 < nodes_next vs (go (find p 0).body (start_env p vs)))) ⊎ Begins p bodies code (run_main p vs) w
+  RunsAs vs w = ((w.answer ≡ Err Over) × (4096 < nodes_next vs (go (find p 0).body (start_env p vs)))) ⊎ Begins p bodies code (run_main p vs) w
 
   module _ (linked : ProgramLinked p bodies code) (formed : admitted p ≡ true) (ds : List Exp) (fit : fits (find p 0).params ds ≡ true)
       (jmarks jnums : List ℕ) (e : JobEnds) (here : Run (datum_cells jmarks jnums) 4 e.ins (cells_all ds)) (room : nodes_all ds < 4096)

@@ -7,13 +7,13 @@ use native.Mathlib.Omega.{arith}
 use native.Mathlib.Decide.{dec_le}
 use lib.ListN.{length, take, drop, length-append}
 use lib.Seq.{take_at, drop_at}
+use Rattle.std.specs.Prelude.{Some, None}
 use Rattle.expressions.specs.Expression.{Exp, nodes}
 use Rattle.sets.specs.Twins.Copying.{tree_end}
 use Rattle.sets.specs.Cells.{cells, cells_all}
 use Rattle.sets.proofs.CellLaws.{stands_end, cells_nodes}
 use Rattle.runs.specs.Twins.Runs.{cells_at, run}
 use Rattle.heap.specs.Twins.Entries.{PushAnswer, entry, entry_known, entry_from, entry_to, pushed}
-use Rattle.heap.specs.declared.entry.Pushed.TheVariants.{Done, Full}
 use Rattle.runs.proofs.RunLaws.{Below, below_self, length_cells_at, run_drop, cells_split}
 use Rattle.heap.proofs.HeapLaws.{Holds, nodes_positive}
 use Rattle.heap.proofs.FrameLaws.{Held, entry_length, entry_before, entry_known_lem, entry_from_lem, entry_to_lem}
@@ -57,14 +57,14 @@ first_tree h i to t r l m e =
 
 -- so many entries more, behind n; what stood before them stands there
 pub record Enters (h : List ℕ) (used : ℕ) (f : List ℕ) (n : ℕ) (ts : List Exp) (w : PushAnswer) : Type 0 where
-  pub done : w.answer ≡ Done (n + length ts)
+  pub done : w.answer ≡ Some (n + length ts)
   pub holds : Held h used w.frame n ts
   pub before : Below (3 * n) w.frame f
   pub size : length w.frame ≡ length f
 
 -- or there is no room for them
 abbrev pub Outcome : List ℕ → ℕ → List ℕ → ℕ → List Exp → PushAnswer → Type 0
-Outcome h used f n ts w = ((w.answer ≡ Full) × (4120 < n + length ts)) ⊎ Enters h used f n ts w
+Outcome h used f n ts w = ((w.answer ≡ None) × (4120 < n + length ts)) ⊎ Enters h used f n ts w
 
 -- one entry
 module _ (h : List ℕ) (used : ℕ) (f : List ℕ) (n i to : ℕ) (t : Exp) (in_heap_lem : used ≤ 65535) (long : length f ≡ 12360) (room : n < 4120) (low : i ≤ used) (x : Holds h used i to t) where

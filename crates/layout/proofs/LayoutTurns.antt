@@ -4,8 +4,8 @@ use mathlib.Core.Path.{◌≡◌}
 use mathlib.Core.List.{List}
 use native.Mathlib.Omega.{arith}
 use lib.ListN.{get_or}
+use Rattle.std.specs.Prelude.{Some}
 use Rattle.sets.specs.Twins.Fill.{fill_answer}
-use Rattle.sets.specs.declared.fill.Filled.TheVariants.{Done}
 use Rattle.runs.specs.Twins.Runs.{run}
 use Rattle.runs.proofs.RunLaws.{run_cons, run_end}
 use Rattle.values.specs.Twins.Values.{onward_fill}
@@ -19,7 +19,7 @@ pub some_left : (c j : ℕ) → j < c → c - j ≡ suc (c - (j + 1))
 some_left c j l = omega arith
 
 -- the cells of data, token by token
-pub data_end : {to i : ℕ} → to ≤ i → (marks nums : List ℕ) (k : ℕ) (h : List ℕ) → data_written marks nums (to - i) i k h ≡ fill_answer (Done k) h
+pub data_end : {to i : ℕ} → to ≤ i → (marks nums : List ℕ) (k : ℕ) (h : List ℕ) → data_written marks nums (to - i) i k h ≡ fill_answer (Some k) h
 unfolding data_written
 data_end {to} {i} l marks nums k h = rw (none_left to i l)
 

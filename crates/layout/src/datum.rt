@@ -7,7 +7,6 @@ ghost use Rattle.layout.specs.Twins.Data.{datum_cell, datum_written, data_writte
 
 use cells::cell;
 use linking::tokens::{key, kind};
-use sets::fill::Filled;
 use sets::{contraction, tree};
 use words::keys::{AVARIABLE, CONS, EVARIABLE, SYMBOL};
 
@@ -19,42 +18,38 @@ fn datum_cell(jmarks: &[u16], jnums: &[u16], i: usize) -> u16
         return tree::PAIR;
     }
     let number = cell::cell(jnums, i);
-    let tag = kind(jmarks, i);
-    if tag == SYMBOL {
-        return contraction::code(number, 1);
+    match kind(jmarks, i) {
+        SYMBOL => contraction::code(number, 1),
+        EVARIABLE => contraction::code(number, 2),
+        AVARIABLE => contraction::code(number, 3),
+        _ => 0,
     }
-    if tag == EVARIABLE {
-        return contraction::code(number, 2);
-    }
-    if tag == AVARIABLE {
-        return contraction::code(number, 3);
-    }
-    0
 }
 
-// One cell, below 65,535, as far as the heap is long. Done: the place behind it.
-pub(crate) fn lay_cell(heap: &mut [u16], x: u16, at: usize) -> Filled
+// One cell, below 65,535, as far as the heap is long: the place behind it, and None past it.
+pub(crate) fn lay_cell(heap: &mut [u16], x: u16, at: usize) -> Option<usize>
     ensures { fill_answer result heap.new ≡ written at 1 (x ∷ []) heap.old }
 {
     if 65534 < at {
-        return Filled::Over;
+        return None;
     }
     cell::put(heap, at, x);
-    Filled::Done(at + 1)
+    Some(at + 1)
 }
 
 // The cell of the token i, if it gives one.
-fn lay_datum(jmarks: &[u16], jnums: &[u16], i: usize, heap: &mut [u16], at: usize) -> Filled
+fn lay_datum(jmarks: &[u16], jnums: &[u16], i: usize, heap: &mut [u16], at: usize) -> Option<usize>
     ensures { fill_answer result heap.new ≡ datum_written jmarks.now jnums.now i at heap.old }
 {
     let code = datum_cell(jmarks, jnums, i);
     if code == 0 {
-        return Filled::Done(at);
+        return Some(at);
     }
     lay_cell(heap, code, at)
 }
 
-// The cells of the tokens from `from` up to `to`, one behind the other, from `at` on. Done: the place behind them.
+// The cells of the tokens from `from` up to `to`, one behind the other, from `at` on: the place behind them, and None where
+// they do not fit.
 pub(crate) fn lay_data(
     jmarks: &[u16],
     jnums: &[u16],
@@ -62,22 +57,12 @@ pub(crate) fn lay_data(
     to: usize,
     heap: &mut [u16],
     at: usize,
-) -> Filled
+) -> Option<usize>
     ensures { fill_answer result heap.new ≡ data_written jmarks.now jnums.now (to - from) from at heap.old }
 {
     let mut k = at;
-    let mut i = from;
-    while i < to {
-        let w = lay_datum(jmarks, jnums, i, heap, k);
-        match w {
-            Filled::Done(m) => {
-                k = m;
-                i += 1;
-            }
-            Filled::Over => {
-                return Filled::Over;
-            }
-        }
+    for i in from..to {
+        k = lay_datum(jmarks, jnums, i, heap, k)?;
     }
-    Filled::Done(k)
+    Some(k)
 }

@@ -1,9 +1,8 @@
 // "Fresh numbers start one above the largest K of either kind in the job."
-ghost use Rattle.std.specs.Prelude.{◌≡◌, ◌≤◌, max, min};
+ghost use Rattle.std.specs.Prelude.{◌≡◌, ◌≤◌, min};
 ghost use Rattle.runs.specs.Twins.Runs.{run};
 ghost use Rattle.layout.specs.Twins.Fresh.{number_cell, largest_run, first_fresh_cells};
 
-use cells::cell;
 use runs::run;
 
 // The number of a variable, by its code; 0 for what is none.
@@ -16,22 +15,14 @@ fn number_of(x: u16) -> u16
     x / 4
 }
 
-fn larger(a: u16, b: u16) -> u16
-    ensures { result ≡ max a b }
-{
-    if a < b { b } else { a }
-}
-
 // The largest number of a variable among the first n cells.
 fn largest(heap: &[u16; 65535], n: usize) -> u16
     ensures { (result ≡ largest_run (run 0 (min n 65535) heap.now)) × (result ≤ 16383) }
 {
-    let count = cell::least(n, run::SIZE);
+    let count = n.min(run::SIZE);
     let mut most: u16 = 0;
-    let mut i: usize = 0;
-    while i < count {
-        most = larger(most, number_of(heap[i]));
-        i += 1;
+    for i in 0..count {
+        most = most.max(number_of(heap[i]));
     }
     most
 }

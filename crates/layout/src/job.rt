@@ -2,13 +2,11 @@
 ghost use Rattle.std.specs.Prelude.{◌≡◌};
 ghost use Rattle.sets.specs.Twins.Fill.{fill_answer};
 ghost use Rattle.restrictions.specs.Twins.Restricting.{restrict_answer};
-ghost use Rattle.layout.specs.Twins.Laying.{output_laid, sides_laid, laid_as, laid_left, ends_laid, job_laid, sides_taken};
+ghost use Rattle.layout.specs.Twins.Laying.{output_laid, sides_laid, laid_left, ends_laid, job_laid, sides_taken};
 
 use crate::datum::{lay_cell, lay_data};
-use cells::cell;
+use restrictions::failure::Failure;
 use restrictions::restriction;
-use restrictions::restriction::Restricted;
-use sets::fill::Filled;
 use sets::tree;
 use syntax::job_ends::JobEnds;
 
@@ -19,18 +17,11 @@ const INPUTS: usize = 4;
 const ZERO: u16 = 1;
 
 // Where each part ends.
-#[derive(Drop)]
+#[derive(Clone, Copy)]
 pub struct Parts {
     pub ins: usize,
     pub io: usize,
     pub all: usize,
-}
-
-// Done: the job's cells stand. Over: they do not fit.
-#[derive(Drop)]
-pub enum Laid {
-    Done(Parts),
-    Over,
 }
 
 // The wanted output. The runner "uses only the inputs and N": in its place the symbol 0.
@@ -41,7 +32,7 @@ fn lay_output(
     heap: &mut [u16],
     at: usize,
     run: bool,
-) -> Filled
+) -> Option<usize>
     ensures { fill_answer result heap.new ≡ output_laid jmarks.now jnums.now parts at run heap.old }
 {
     if run {
@@ -58,26 +49,13 @@ fn lay_sides(
     heap: &mut [u16],
     at: usize,
     run: bool,
-) -> Filled
+) -> Option<usize>
     ensures { fill_answer result heap.new ≡ sides_laid jmarks.now jnums.now parts at run heap.old }
 {
     if run {
-        return Filled::Done(at);
+        return Some(at);
     }
     lay_data(jmarks, jnums, parts.sides, parts.neqs, heap, at)
-}
-
-fn parts_of(ins: usize, io: usize, w: Filled) -> Laid
-    ensures { result ≡ laid_as ins io w }
-{
-    match w {
-        Filled::Done(k) => Laid::Done(Parts {
-            ins: ins,
-            io: io,
-            all: k,
-        }),
-        Filled::Over => Laid::Over,
-    }
 }
 
 // What stands behind the inputs, which end at `ins`.
@@ -88,37 +66,41 @@ fn lay_ends(
     heap: &mut [u16],
     ins: usize,
     run: bool,
-) -> Laid
+) -> Option<Parts>
     ensures { laid_left result heap.new ≡ ends_laid jmarks.now jnums.now parts ins run heap.old }
 {
-    let b = lay_output(jmarks, jnums, parts, heap, ins, run);
-    match b {
-        Filled::Done(io) => {
-            let c = lay_sides(jmarks, jnums, parts, heap, io, run);
-            parts_of(ins, io, c)
-        }
-        Filled::Over => Laid::Over,
-    }
+    let io = lay_output(jmarks, jnums, parts, heap, ins, run)?;
+    let all = lay_sides(jmarks, jnums, parts, heap, io, run)?;
+    Some(Parts { ins, io, all })
 }
 
-// The inputs, the wanted output and the sides of the job whose parts stand so, one behind the other from the first cell on. With `run` its inputs alone.
-pub fn lay_job(jmarks: &[u16], jnums: &[u16], parts: JobEnds, heap: &mut [u16], run: bool) -> Laid
+// The inputs, the wanted output and the sides of the job whose parts stand so, one behind the other from the first cell on. With `run` its inputs
+// alone. None: they do not fit.
+pub fn lay_job(
+    jmarks: &[u16],
+    jnums: &[u16],
+    parts: JobEnds,
+    heap: &mut [u16],
+    run: bool,
+) -> Option<Parts>
     ensures { laid_left result heap.new ≡ job_laid jmarks.now jnums.now parts run heap.old }
 {
-    let a = lay_data(jmarks, jnums, INPUTS, parts.ins, heap, 0);
-    match a {
-        Filled::Done(ins) => lay_ends(jmarks, jnums, parts, heap, ins, run),
-        Filled::Over => Laid::Over,
-    }
+    let ins = lay_data(jmarks, jnums, INPUTS, parts.ins, heap, 0)?;
+    lay_ends(jmarks, jnums, parts, heap, ins, run)
 }
 
 // The sides that stand in the heap from `from` up to `to` as non-equalities, simplified.
-pub fn take_sides(heap: &[u16; 65535], q: &mut [u16; 4096], from: usize, to: usize) -> Restricted
+pub fn take_sides(
+    heap: &[u16; 65535],
+    q: &mut [u16; 4096],
+    from: usize,
+    to: usize,
+) -> Result<usize, Failure>
     ensures { restrict_answer result q.new ≡ sides_taken from to heap.now q.old }
 {
-    let n = to - cell::least(from, to);
+    let n = to.saturating_sub(from);
     if tree::copy(heap, from, n, q, 0) {
         return restriction::simplify(q, n / 2);
     }
-    Restricted::Full
+    Err(Failure::Over)
 }

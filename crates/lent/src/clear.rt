@@ -5,9 +5,7 @@ ghost use Rattle.lent.specs.Storage.{zeros};
 pub fn clear(s: &mut [u16])
     ensures { s.new ≡ zeros s.old }
 {
-    for i in 0..s.len() {
-        s[i] = 0;
-    }
+    s.fill(0);
 }
 
 // The four storages that tokens stand in.

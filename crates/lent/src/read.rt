@@ -2,6 +2,8 @@
 ghost use Rattle.std.specs.Prelude.{◌≡◌};
 ghost use Rattle.lent.specs.Storage.{roomy};
 
+use refusals::refusal::Refusal;
+
 // Least lengths, in cells: of marks, nums and ats each, of the table of symbols, of the table of names.
 pub const TOKENS: usize = 4097;
 
@@ -9,28 +11,26 @@ pub const SYMBOLS: usize = 2048;
 
 pub const NAMES: usize = 8194;
 
-// Accepted: how many tokens are stored, and how many symbols the table has. Refused: 1 to 13, and the offset. Short: 20, nothing touched.
-#[derive(Drop)]
-pub enum Read {
-    Accepted { tokens: usize, symbols: u16 },
-    Refused { number: usize, offset: usize },
+// How many tokens are stored, and how many symbols the table has.
+#[derive(Clone, Copy)]
+pub struct Read {
+    pub tokens: usize,
+    pub symbols: u16,
+}
+
+// Short: 20, nothing touched.
+#[derive(Clone, Copy)]
+pub enum Unread {
+    Refused(Refusal),
     Short,
 }
 
 pub fn long_enough(marks: &[u16], nums: &[u16], ats: &[u16], symbols: &[u16], names: &[u16]) -> bool
     ensures { result ≡ roomy marks.now nums.now ats.now symbols.now names.now }
 {
-    if marks.len() < TOKENS {
-        return false;
-    }
-    if nums.len() < TOKENS {
-        return false;
-    }
-    if ats.len() < TOKENS {
-        return false;
-    }
-    if symbols.len() < SYMBOLS {
-        return false;
-    }
-    NAMES <= names.len()
+    marks.len() >= TOKENS
+        && nums.len() >= TOKENS
+        && ats.len() >= TOKENS
+        && symbols.len() >= SYMBOLS
+        && names.len() >= NAMES
 }

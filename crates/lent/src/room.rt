@@ -12,17 +12,11 @@ pub const VALUE: usize = 4096;
 pub fn short_for_lines(work: &[u16], answer: &[u16]) -> bool
     ensures { result ≡ short_for_lines work.now answer.now }
 {
-    if work.len() < WORK {
-        return true;
-    }
-    answer.len() < LINES
+    work.len() < WORK || answer.len() < LINES
 }
 
 pub fn short_for_value(work: &[u16], answer: &[u16]) -> bool
     ensures { result ≡ short_for_value work.now answer.now }
 {
-    if work.len() < WORK {
-        return true;
-    }
-    answer.len() < VALUE
+    work.len() < WORK || answer.len() < VALUE
 }

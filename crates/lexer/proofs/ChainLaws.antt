@@ -240,15 +240,24 @@ linked_turn s n symbols names chains symbols' names' chains₁ chains₂ found k
 
 -- the entries one after the other
 module _ (base : ℕ) (table : List ℕ) where
-  pub all_none : {n : ℕ} (k : ℕ) (chains : List ℕ) → n ≤ 0 → linked_all base table n k chains ≡ chains
+  all_none : {n : ℕ} (k : ℕ) (chains : List ℕ) → n ≤ 0 → linked_all base table n k chains ≡ chains
   unfolding linked_all
   all_none {n = zero} k chains h = refl
   all_none {n = suc n} k chains h = let z : ⊥ = omega arith in absurd z
 
-  pub all_more : {n : ℕ} (k : ℕ) (chains : List ℕ) → 0 < n → linked_all base table n k chains ≡ linked_all base table (n - 1) (k + 1) (linked base table k chains)
+  all_more : {n : ℕ} (k : ℕ) (chains : List ℕ) → 0 < n → linked_all base table n k chains ≡ linked_all base table (n - 1) (k + 1) (linked base table k chains)
   unfolding linked_all
   all_more {n = zero} k chains h = let z : ⊥ = omega arith in absurd z
   all_more {n = suc n} k chains h = let d : suc n - 1 ≡ n = omega arith in rw d
+
+  -- at the entry k of n
+  pub all_past : (n k : ℕ) (chains : List ℕ) → n ≤ k → linked_all base table (n - k) k chains ≡ chains
+  all_past n k chains h = all_none k chains (omega arith)
+
+  pub all_next : (n k : ℕ) (chains : List ℕ) → k < n → linked_all base table (n - k) k chains ≡ linked_all base table (n - (k + 1)) (k + 1) (linked base table k chains)
+  all_next n k chains h =
+      let d : n - k - 1 ≡ n - (k + 1) = omega arith in
+      rw (all_more {n = n - k} k chains (omega arith), d)
 
   all_length : (n k : ℕ) (chains : List ℕ) → length (linked_all base table n k chains) ≡ length chains
   unfolding linked_all

@@ -24,3 +24,15 @@ module _ (first second table : List ℕ) (hash : ℕ) (w : Word) where
   find_on {n = suc n} k h e =
       let d : suc n - 1 ≡ n = omega arith in
       rw d (ap (λ t. cond t k (find_at first second table hash w n (k + 1))) e)
+
+  -- at the entry k of n
+  pub find_past : (n k : ℕ) → n ≤ k → find_at first second table hash w (n - k) k ≡ k
+  find_past n k h = find_none k (omega arith)
+
+  pub find_found : (n k : ℕ) → k < n → entry_is first second table hash w k ≡ true → find_at first second table hash w (n - k) k ≡ k
+  find_found n k h e = find_here k (omega arith) e
+
+  pub find_next : (n k : ℕ) → k < n → entry_is first second table hash w k ≡ false → find_at first second table hash w (n - k) k ≡ find_at first second table hash w (n - (k + 1)) (k + 1)
+  find_next n k h e =
+      let d : n - k - 1 ≡ n - (k + 1) = omega arith in
+      rw (find_on {n = n - k} k (omega arith) e, d)

@@ -1,4 +1,4 @@
-// A text cut into tokens in storage (specs/twins/Lexed.antt). It ends with the first token that no reader passes: the end of the text, a word
+// A text cut into tokens in storage (specs/Twins/Lexed.antt). It ends with the first token that no reader passes: the end of the text, a word
 // that fits nowhere, or one too many.
 ghost use Rattle.std.specs.Prelude.{◌≡◌, set, eqb, ◌&&◌, not};
 ghost use Rattle.lexer.specs.Twins.Chains.{Linked, linked_if};
@@ -10,6 +10,7 @@ use cells::cell::{low, put};
 use cells::part::part;
 use words::cutting::{piece_end, word_start};
 use words::fit::value;
+use words::keys::{AVARIABLE, END, EVARIABLE, OTHER, PLAIN, SYMBOL};
 use words::kinds::{fit_of, hash_of, key_of, kind_of};
 
 // A token in cells; whether it is a new symbol, or a new word that is none; and whether no reader passes it.
@@ -36,7 +37,7 @@ pub struct Counts {
 }
 
 // How many tokens are stored, and how many symbols the table has then.
-#[derive(Drop)]
+#[derive(Clone, Copy)]
 pub struct Cut {
     pub tokens: usize,
     pub symbols: u16,
@@ -45,7 +46,7 @@ pub struct Cut {
 fn mark_of(key: u16, kind: u16, fit: u16, over: bool) -> u16
     ensures { result ≡ mark_cell key kind fit over }
 {
-    let sum = key as usize + 32 * (kind as usize) + 256 * (fit as usize);
+    let sum = usize::from(key) + 32 * usize::from(kind) + 256 * usize::from(fit);
     if over {
         return low(sum + 1024);
     }
@@ -56,64 +57,35 @@ fn mark_of(key: u16, kind: u16, fit: u16, over: bool) -> u16
 fn number(job: bool, kind: u16, fit: u16, place: u16, word: &[u8]) -> u16
     ensures { result ≡ number_at job kind fit place word.now }
 {
-    if fit == 0 {
-        if kind == 3 {
-            return value(word, 2);
-        }
-        if kind == 4 {
-            return value(word, 2);
-        }
-        if kind == 5 {
-            if job {
-                return value(word, 0);
-            }
-            return place;
-        }
-        return place;
+    if fit != 0 {
+        return 0;
     }
-    0
+    match kind {
+        EVARIABLE | AVARIABLE => value(word, 2),
+        PLAIN if job => value(word, 0),
+        _ => place,
+    }
 }
 
 // "A text has at most 4,096 tokens"; "both texts together 1,024 different symbols (Z)"
 fn over_at(i: usize, kind: u16, num: u16) -> bool
     ensures { result ≡ over_at i kind num }
 {
-    if is_token_over(i) {
-        return true;
-    }
-    if kind == 0 {
-        return is_symbol_over(num);
-    }
-    false
+    is_token_over(i) || kind == SYMBOL && is_symbol_over(num)
 }
 
 // No reader passes it.
 fn shut_at(over: bool, fit: u16, key: u16) -> bool
     ensures { result ≡ shut_at over fit key }
 {
-    if over {
-        return true;
-    }
-    if fit == 0 {
-        return false;
-    }
-    if key == 18 {
-        return true;
-    }
-    if key == 0 {
-        return true;
-    }
-    false
+    over || fit != 0 && (key == OTHER || key == END)
 }
 
 // Symbols and other words are counted apart.
 fn count_of(kind: u16, found: u16, known: u16) -> u16
     ensures { result ≡ count_of kind found known }
 {
-    if kind == 0 {
-        return found;
-    }
-    known
+    if kind == SYMBOL { found } else { known }
 }
 
 // The word's place in its table. A text has at most 1,024 symbols; the chains have room for so many.
@@ -131,7 +103,7 @@ fn place_of(
     requires { Linked symbols.now counts.found names.now counts.known chains.now }
     ensures { result ≡ place_of first.now text.now symbols.now counts.found names.now counts.known kind hash word.now }
 {
-    if kind == 0 {
+    if kind == SYMBOL {
         if counts.found <= 1024 {
             return find_linked(
                 first,
@@ -149,44 +121,25 @@ fn place_of(
     find_linked(text, text, names, chains, 0, counts.known, hash, word)
 }
 
-fn both(a: bool, b: bool) -> bool
-    ensures { result ≡ (a && b) }
+// A symbol that is new.
+fn new_symbol(new: bool, kind: u16) -> bool
+    ensures { result ≡ (new && eqb kind 0) }
 {
-    if a {
-        return b;
-    }
-    false
+    new && kind == SYMBOL
 }
 
-fn equal(a: u16, b: u16) -> bool
-    ensures { result ≡ eqb a b }
+// A word that is new and no symbol.
+fn new_name(new: bool, kind: u16) -> bool
+    ensures { result ≡ (new && not (eqb kind 0)) }
 {
-    if a == b {
-        return true;
-    }
-    false
-}
-
-fn differ(a: bool) -> bool
-    ensures { result ≡ not a }
-{
-    if a {
-        return false;
-    }
-    true
+    new && kind != SYMBOL
 }
 
 // One more, if it is so.
 fn counted_if(yes: bool, n: u16) -> u16
     ensures { result ≡ counted yes n }
 {
-    if yes {
-        if n < 65535 {
-            return n + 1;
-        }
-        return n;
-    }
-    n
+    if yes { n.saturating_add(1) } else { n }
 }
 
 // The offset in the table: those of a job stand behind the program's.
@@ -194,9 +147,10 @@ fn shifted_by(job: bool, at: u16) -> u16
     ensures { result ≡ shifted job at }
 {
     if job {
-        return low(at as usize + 32769);
+        low(usize::from(at) + 32769)
+    } else {
+        at
     }
-    at
 }
 
 // The next entry of the table, if it is so.
@@ -244,16 +198,15 @@ fn token_from(
     );
     let num = number(job, kind, fit, place, word);
     let over = over_at(i, kind, num);
-    let new = equal(place, count_of(kind, counts.found, counts.known));
-    let is_symbol = equal(kind, 0);
+    let new = place == count_of(kind, counts.found, counts.known);
     Token {
         mark: mark_of(key, kind, fit, over),
         num,
         at: low(at),
         hash,
         next,
-        symbol: both(new, is_symbol),
-        name: both(new, differ(is_symbol)),
+        symbol: new_symbol(new, kind),
+        name: new_name(new, kind),
         shut: shut_at(over, fit, key),
     }
 }
@@ -284,10 +237,9 @@ pub fn cut_tokens(
     let mut found = before;
     let mut known: u16 = 0;
     let mut from: usize = 0;
-    let mut i: usize = 0;
     let mut chains: [u16; 5634] = [0; 5634];
     link_all(symbols, before, SYMBOLS_FROM, &mut chains);
-    while i < 4097 {
+    for i in 0..4097 {
         let counts = Counts { found, known };
         let t = token_from(job, first, text, symbols, names, &chains, counts, i, from);
         store(marks, nums, ats, i, t);
@@ -304,10 +256,9 @@ pub fn cut_tokens(
         found = counted_if(t.symbol, found);
         known = counted_if(t.name, known);
         from = t.next;
-        i += 1;
     }
     Cut {
-        tokens: i,
+        tokens: 4097,
         symbols: found,
     }
 }

@@ -24,10 +24,7 @@ pub fn word_at(text: &[u8], i: usize) -> &[u8]
 fn stands_at(text: &[u8], at: usize, word: &[u8]) -> bool
     ensures { result ≡ word_same (word_at text.now at) word.now }
 {
-    if begins(word, part(text, at, text.len())) {
-        return same(word_at(text, at), word);
-    }
-    false
+    begins(word, part(text, at, text.len())) && same(word_at(text, at), word)
 }
 
 // The word stands at this offset.
@@ -35,23 +32,22 @@ fn stands(first: &[u8], second: &[u8], offset: u16, word: &[u8]) -> bool
     ensures { result ≡ word_same (word_in first.now second.now offset) word.now }
 {
     if offset < 32769 {
-        return stands_at(first, offset as usize, word);
+        stands_at(first, usize::from(offset), word)
+    } else {
+        stands_at(second, usize::from(offset - 32769), word)
     }
-    stands_at(second, (offset - 32769) as usize, word)
 }
 
 // The entry k is this word. Bytes are compared only where the hashes are equal.
 fn entry_is(first: &[u8], second: &[u8], table: &[u16], k: u16, hash: u16, word: &[u8]) -> bool
     ensures { result ≡ entry_is first.now second.now table.now hash word.now k }
 {
-    let place = 2 * (k as usize);
-    if cell(table, place) == hash {
-        return stands(first, second, cell(table, place + 1), word);
-    }
-    false
+    let place = 2 * usize::from(k);
+    cell(table, place) == hash && stands(first, second, cell(table, place + 1), word)
 }
 
 // The place of the word among the first `count` entries, or `count`.
+#[tactic(auto, using(crate::proofs::TableLaws::find_past, crate::proofs::TableLaws::find_found, crate::proofs::TableLaws::find_next))]
 pub(crate) fn find(
     first: &[u8],
     second: &[u8],
@@ -62,21 +58,19 @@ pub(crate) fn find(
 ) -> u16
     ensures { result ≡ find_at first.now second.now table.now hash word.now count 0 }
 {
-    let mut k: u16 = 0;
-    while k < count {
+    for k in 0..count {
         if entry_is(first, second, table, k, hash, word) {
             return k;
         }
-        k += 1;
     }
-    k
+    count
 }
 
 // The bucket of a hash.
 fn bucket(hash: u16) -> usize
     ensures { result ≡ hash % 256 }
 {
-    (hash % 256) as usize
+    usize::from(hash % 256)
 }
 
 // As `find`, by the chain of the word's bucket: entries of other buckets have other hashes. The chain goes from the newest entry to the oldest, so that
@@ -120,13 +114,12 @@ pub(crate) fn link(table: &[u16], k: u16, base: u16, chains: &mut [u16])
 }
 
 // The first `count` entries in their chains, one after the other.
+#[tactic(auto, using(crate::proofs::ChainLaws::all_past, crate::proofs::ChainLaws::all_next, crate::proofs::ChainLaws::length_linked))]
 pub(crate) fn link_all(table: &[u16], count: u16, base: u16, chains: &mut [u16])
     ensures { chains.new ≡ linked_all base table.now count 0 chains.old }
 {
-    let mut k: u16 = 0;
-    while k < count {
+    for k in 0..count {
         link(table, k, base, chains);
-        k += 1;
     }
 }
 
@@ -134,7 +127,7 @@ pub(crate) fn link_all(table: &[u16], count: u16, base: u16, chains: &mut [u16])
 pub(crate) fn enter(table: &mut [u16], k: u16, hash: u16, offset: u16)
     ensures { table.new ≡ entered table.old k hash offset }
 {
-    let place = 2 * (k as usize);
+    let place = 2 * usize::from(k);
     put(table, place, hash);
     put(table, place + 1, offset);
 }

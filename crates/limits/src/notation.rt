@@ -25,27 +25,15 @@ fn digit(b: u8) -> u8
     }
 }
 
-fn is_digit(b: u8) -> bool {
-    match b {
-        b'0'..=b'9' => true,
-        _ => false,
-    }
-}
-
 // The value of the numeral at a place; of one over 99,999, that of its first five digits.
 pub fn numeral(line: &[u8], from: usize) -> usize {
     let mut n: usize = 0;
-    let mut i = from;
-    while i < line.len() {
+    for i in from..line.len() {
         let b = line[i];
-        if !is_digit(b) {
+        if !b.is_ascii_digit() || 9999 < n {
             return n;
         }
-        if 9999 < n {
-            return n;
-        }
-        n = 10 * n + digit(b) as usize;
-        i += 1;
+        n = 10 * n + usize::from(digit(b));
     }
     n
 }
@@ -61,10 +49,8 @@ fn put(out: &mut [u8], at: usize, b: u8) -> usize {
 
 fn put_all(out: &mut [u8], at: usize, bytes: &[u8]) -> usize {
     let mut k = at;
-    let mut i: usize = 0;
-    while i < bytes.len() {
-        k = put(out, k, bytes[i]);
-        i += 1;
+    for b in bytes {
+        k = put(out, k, *b);
     }
     k
 }
@@ -114,13 +100,11 @@ fn write_byte(line: &[u8], w: Written, time: usize, out: &mut [u8]) -> Written
     if b == b'\\' {
         return escaped(line, w, out);
     }
-    if b == b'#' {
-        if 0 < time {
-            return Written {
-                next: at + 1,
-                bytes: put_number(out, w.bytes, time),
-            };
-        }
+    if b == b'#' && 0 < time {
+        return Written {
+            next: at + 1,
+            bytes: put_number(out, w.bytes, time),
+        };
     }
     Written {
         next: at + 1,
@@ -139,9 +123,7 @@ fn write_once(body: &[u8], time: usize, out: &mut [u8], at: usize) -> usize {
 
 fn write_times(body: &[u8], times: usize, out: &mut [u8], at: usize) -> usize {
     let mut k = at;
-    let mut time: usize = 0;
-    while time < times {
-        time += 1;
+    for time in 1..=times {
         k = write_once(body, time, out, k);
     }
     k

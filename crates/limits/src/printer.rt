@@ -1,6 +1,6 @@
 // The line of a case.
 use crate::reading::Said;
-use lent::read::Read;
+use lent::read::{Read, Unread};
 use std::io;
 
 fn word(to: &impl Print, bytes: &[u8]) -> io::Result<()> {
@@ -13,7 +13,7 @@ fn number(to: &impl Print, n: usize) -> io::Result<()> {
 
 // How many tokens a text has, of which the storage holds one more, for its end.
 fn tokens_of(stored: usize) -> usize {
-    if 0 < stored { stored - 1 } else { 0 }
+    stored.saturating_sub(1)
 }
 
 // Which text is refused.
@@ -26,18 +26,18 @@ fn text(to: &impl Print, job: bool) -> io::Result<()> {
 
 fn answer(to: &impl Print, said: &Said) -> io::Result<()> {
     match said.read {
-        Read::Accepted { tokens, symbols } => {
+        Ok(Read { tokens, symbols }) => {
             word(to, b"accepted")?;
             number(to, tokens_of(said.program))?;
             number(to, tokens_of(tokens))?;
-            number(to, symbols as usize)
+            number(to, usize::from(symbols))
         }
-        Read::Refused { number: n, offset } => {
+        Err(Unread::Refused(refusal)) => {
             text(to, said.job)?;
-            number(to, n)?;
-            number(to, offset)
+            number(to, refusal.number)?;
+            number(to, refusal.offset)
         }
-        Read::Short => {
+        Err(Unread::Short) => {
             text(to, said.job)?;
             word(to, b" short")
         }

@@ -1,15 +1,15 @@
 // Both readers on the two texts of a case. The storages that they are lent are filled beforehand, and looked at afterwards.
 use crate::storage::{FILLED, left_sound};
-use lent::read::{NAMES, Read, SYMBOLS, TOKENS};
-use texts::read_job::read_job;
+use lent::read::{NAMES, Read, SYMBOLS, TOKENS, Unread};
+use texts::read_job::{Before, read_job};
 use texts::read_program::read_program;
 
 // What was said of the text that was read last, whether that is the job, and whether the storages are as they must be. `program` is how
 // many tokens are stored of a program that was accepted.
-#[derive(Drop)]
+#[derive(Clone, Copy)]
 pub struct Said {
     pub program: usize,
-    pub read: Read,
+    pub read: Result<Read, Unread>,
     pub job: bool,
     pub sound: bool,
 }
@@ -36,39 +36,26 @@ pub fn said_of_program(
 // What the job's reader says, and leaves.
 pub fn said_of_job(
     runs: bool,
-    program: &[u8],
-    main: &[u16],
-    count: usize,
+    before: Before<'_>,
     text: &[u8],
     marks: &mut [u16],
     nums: &mut [u16],
     ats: &mut [u16],
     symbols: &mut [u16],
-    before: u16,
     names: &mut [u16],
 ) -> Said {
-    let read = read_job(
-        runs, program, main, count, text, marks, nums, ats, symbols, before, names,
-    );
+    let read = read_job(runs, before, text, marks, nums, ats, symbols, names);
     let sound = left_sound(&read, marks, nums, ats, symbols, names);
     Said {
-        program: count,
+        program: before.tokens,
         read,
         job: true,
         sound,
     }
 }
 
-// The job behind a program of which `count` tokens are stored, and `before` symbols.
-fn read_second(
-    runs: bool,
-    program: &[u8],
-    main: &[u16],
-    count: usize,
-    text: &[u8],
-    symbols: &mut [u16],
-    before: u16,
-) -> Said {
+// The job behind its program, whose symbols stand in the table.
+fn read_second(runs: bool, before: Before<'_>, text: &[u8], symbols: &mut [u16]) -> Said {
     let mut mark_space = [FILLED; TOKENS];
     let mut num_space = [FILLED; TOKENS];
     let mut at_space = [FILLED; TOKENS];
@@ -77,9 +64,7 @@ fn read_second(
     let nums: &mut [u16] = &mut num_space;
     let ats: &mut [u16] = &mut at_space;
     let names: &mut [u16] = &mut name_space;
-    said_of_job(
-        runs, program, main, count, text, marks, nums, ats, symbols, before, names,
-    )
+    said_of_job(runs, before, text, marks, nums, ats, symbols, names)
 }
 
 // Reads the program and, where it is accepted, the job.
@@ -98,8 +83,14 @@ pub fn read_case(program: &[u8], text: &[u8], runs: bool) -> Said {
     if !said.sound {
         return said;
     }
-    let Read::Accepted { tokens, symbols } = said.read else {
+    let Ok(Read { tokens, symbols }) = said.read else {
         return said;
     };
-    read_second(runs, program, marks, tokens, text, table, symbols)
+    let before = Before {
+        text: program,
+        marks,
+        tokens,
+        symbols,
+    };
+    read_second(runs, before, text, table)
 }

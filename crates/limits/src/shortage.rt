@@ -2,6 +2,7 @@
 use crate::reading::{Said, said_of_job, said_of_program};
 use crate::storage::FILLED;
 use lent::read::{NAMES, SYMBOLS, TOKENS};
+use texts::read_job::Before;
 
 const FEW_TOKENS: usize = TOKENS - 1;
 
@@ -38,10 +39,13 @@ fn unread_job(
     symbols: &mut [u16],
     names: &mut [u16],
 ) -> Said {
-    let main = [0u16; 1];
-    said_of_job(
-        runs, b"", &main, 0, text, marks, nums, ats, symbols, 0, names,
-    )
+    let before = Before {
+        text: b"",
+        marks: &[],
+        tokens: 0,
+        symbols: 0,
+    };
+    said_of_job(runs, before, text, marks, nums, ats, symbols, names)
 }
 
 // The job's reader, where storage k is too short.

@@ -1,19 +1,12 @@
 // What a reader leaves in the five storages that it is lent.
-use lent::read::Read;
+use lent::read::{Read, Unread};
 
 // What stands in storage before it is lent: a reader must not take it for anything.
 pub const FILLED: u16 = 43981;
 
 // Whether each cell is x.
 fn all(s: &[u16], x: u16) -> bool {
-    let mut i: usize = 0;
-    while i < s.len() {
-        if s[i] != x {
-            return false;
-        }
-        i += 1;
-    }
-    true
+    s.iter().all(|cell| *cell == x)
 }
 
 fn all_five(
@@ -24,25 +17,13 @@ fn all_five(
     symbols: &[u16],
     names: &[u16],
 ) -> bool {
-    if !all(marks, x) {
-        return false;
-    }
-    if !all(nums, x) {
-        return false;
-    }
-    if !all(ats, x) {
-        return false;
-    }
-    if !all(symbols, x) {
-        return false;
-    }
-    all(names, x)
+    all(marks, x) && all(nums, x) && all(ats, x) && all(symbols, x) && all(names, x)
 }
 
 // Whether the storages are left as 01, "From the state", has it: "20 ... nothing touched"; "Working storage is zero after each call", which is `names`, and
 // after a refusal all of them.
 pub fn left_sound(
-    read: &Read,
+    read: &Result<Read, Unread>,
     marks: &[u16],
     nums: &[u16],
     ats: &[u16],
@@ -50,14 +31,8 @@ pub fn left_sound(
     names: &[u16],
 ) -> bool {
     match read {
-        Read::Short => all_five(FILLED, marks, nums, ats, symbols, names),
-        Read::Refused {
-            number: _,
-            offset: _,
-        } => all_five(0, marks, nums, ats, symbols, names),
-        Read::Accepted {
-            tokens: _,
-            symbols: _,
-        } => all(names, 0),
+        Err(Unread::Short) => all_five(FILLED, marks, nums, ats, symbols, names),
+        Err(Unread::Refused(_)) => all_five(0, marks, nums, ats, symbols, names),
+        Ok(_) => all(names, 0),
     }
 }

@@ -9,6 +9,9 @@ use native.Mathlib.Omega.{arith}
 use lib.Dec.{leb, ltb}
 use lib.ListN.{length}
 use borrow.Author.Tests.{lt-ltb, le-ltb, lt-leb, ltb-true, ltb-false, leb-false}
+use Rattle.std.specs.Prelude.{Some, None, Ok, Err}
+use Rattle.meetings.specs.Twins.Classes.{Met}
+use Rattle.restrictions.specs.declared.failure.Failure.TheVariants.{Contradiction, Over as MetOver}
 use Rattle.expressions.specs.Expression.{Exp, nodes}
 use Rattle.expressions.specs.Substitution.{apply}
 use Rattle.expressions.specs.Restriction.{simplify}
@@ -33,8 +36,7 @@ use Rattle.linking.specs.Twins.Linked.{ExpLinked, TermLinked, result_linked}
 use Rattle.linking.specs.Twins.Places.{env_of}
 use Rattle.constants.proofs.ConstantLaws.{Constants}
 use Rattle.values.specs.Twins.Names.{names_from}
-use Rattle.values.specs.Twins.Values.{ValueLeft, value_at}
-use Rattle.values.specs.declared.value.Valued.TheVariants.{At, Over as ValuedOver}
+use Rattle.values.specs.Twins.Values.{ValueLeft, valued as valued_at, value_at}
 use Rattle.values.proofs.ValueLaws.{Known}
 use Rattle.values.proofs.RoomLaws.{value_outcome}
 use Rattle.values.proofs.RoomLaws as values
@@ -42,26 +44,22 @@ use Rattle.values.proofs.StateLaws.{HoldsPair, Stands, known_in_scope}
 use Rattle.values.proofs.PairLaws.{ends, ends_length, ends_held, values_held, base_is, entries_are, entries_few}
 use Rattle.meetings.specs.Twins.Unifying.{MetLeft, met_left, unified}
 use Rattle.meetings.specs.declared.class.Class.{Class}
-use Rattle.meetings.specs.declared.class.Met.{Met}
-use Rattle.meetings.specs.declared.class.Met.TheVariants.{Common, Apart, Over as MetOver}
 use Rattle.meetings.proofs.ClassLaws.{over, reached, MeetingHeld, class_over}
 use Rattle.meetings.proofs.BindingLaws.{Kept}
 use Rattle.meetings.proofs.UnifierLaws.{Answered, unify_means}
 use Rattle.lines.specs.LineCells.{answer_room}
 use Rattle.meetings.specs.Twins.LineCells.{line_put}
 use Rattle.lines.specs.Twins.Lines.{nodes_in_line, AddLeft, add_left, one_more, line_added}
-use Rattle.lines.specs.Twins.Ends.{class_at, output_met, ended_as, EndLeft, after_meeting, met_end}
+use Rattle.lines.specs.Twins.Ends.{class_at, output_met, Ended, ended_as, EndLeft, after_meeting, met_end}
 use Rattle.lines.specs.declared.line.Lines.{Lines}
-use Rattle.lines.specs.declared.line.Added.TheVariants.{Full as AddedFull}
-use Rattle.lines.specs.declared.end.Ended.{Ended}
-use Rattle.lines.specs.declared.end.Ended.TheVariants.{Going, Over, Full}
+use Rattle.lines.specs.declared.end.Unstored.TheVariants.{Over, Full}
 use Rattle.lines.proofs.LineLaws.{LinesHeld, nodes_in, line_stored, line_long}
 
 -- What an end comes to: the lines then stand in the answer storage; where the walk stops, that is as it was.
 abbrev pub EndMeans : List ℕ → Walked → Ended → List ℕ → Type 0
-EndMeans a (going r) e b = (l : Lines) × (e ≡ Going l) × LinesHeld r.lines r.nodes b l × (length b ≡ length a)
-EndMeans a (stopped stop21 r) e b = (e ≡ Over) × (b ≡ a)
-EndMeans a (stopped stop22 r) e b = (e ≡ Full) × (b ≡ a)
+EndMeans a (going r) e b = (l : Lines) × (e ≡ Ok l) × LinesHeld r.lines r.nodes b l × (length b ≡ length a)
+EndMeans a (stopped stop21 r) e b = (e ≡ Err Over) × (b ≡ a)
+EndMeans a (stopped stop22 r) e b = (e ≡ Err Full) × (b ≡ a)
 EndMeans a (stopped stop23 r) e b = ⊥
 
 -- "22 a line would be number T+1, or take the lines .. over 16,384 nodes"
@@ -81,7 +79,7 @@ module _ (lim : Limits) (few : lim.table ≤ 256) (steps : ℕ) (within : steps 
         pick false e = le-ltb 16384 sum (omega (arith, held.nodes, nodes_in Q h f q c m low, ltb-false 16384 (r.nodes + nodes_class Q) e))
 
     abbrev Added : Bool → Bool → AddLeft
-    Added s t = cond s (add_left AddedFull a) (cond t (add_left AddedFull a) (one_more l sum (line_put c steps h f q l.top a)))
+    Added s t = cond s (add_left None a) (cond t (add_left None a) (one_more l sum (line_put c steps h f q l.top a)))
 
     added_is : added ≡ Added (leb lim.table (length r.lines)) (ltb 16384 (r.nodes + nodes_class Q))
     unfolding line_added
@@ -118,7 +116,7 @@ pub record EndKept (used : ℕ) (h : List ℕ) (w : EndLeft) : Type 0 where
 result_parts : {p : Prog} {bodies : ℕ → ℕ} {code : List ℕ} {sc : List Param} {i k : ℕ} {e : Exp} → TermLinked p bodies code sc i (result e) k → ExpLinked code sc i e k
 result_parts (result_linked y) = y
 
-unified_over : (P : CRPair meeting) (h f q : List ℕ) (c : Class) → MeetingHeld P h f q c → over P ≡ true → unified c h f q ≡ met_left MetOver h f q
+unified_over : (P : CRPair meeting) (h f q : List ℕ) (c : Class) → MeetingHeld P h f q c → over P ≡ true → unified c h f q ≡ met_left (Err MetOver) h f q
 unfolding unified
 unified_over P h f q c m e = rw (class_over m, e)
 
@@ -189,9 +187,9 @@ module _ (p : Prog) (bodies : ℕ → ℕ) (code : List ℕ) {h f q : List ℕ} 
   -- what the meeting answers and leaves
   record MeetsAs (w : MetLeft) : Type 0 where
     answered : Answered (intersect over P) w
-    kept : (w.met ≡ MetOver) ⊎ Kept c.used h w.heap w.frame w.q
+    kept : (w.met ≡ Err MetOver) ⊎ Kept c.used h w.heap w.frame w.q
 
-  too_large_lem : over P ≡ true → (w : MetLeft) → w.met ≡ MetOver → MeetsAs w
+  too_large_lem : over P ≡ true → (w : MetLeft) → w.met ≡ Err MetOver → MeetsAs w
   too_large_lem e w i = record { answered = subst (λ (o : Intersected). Answered o w) (inv is_large) i; kept = inl i }
     where
       is_large : intersect over P ≡ too_large
@@ -214,11 +212,11 @@ module _ (p : Prog) (bodies : ℕ → ℕ) (code : List ℕ) {h f q : List ℕ} 
           kept = inr (record { same = record { same = λ j l. k.kept.same.same j l ∙ same.same j l }; of_heap = k.kept.of_heap; of_frame = k.kept.of_frame; of_q = k.kept.of_q });
         }
 
-    output_is : valued.answer ≡ At from to now kn → output_met code c h f q ≡ w
+    output_is : valued.answer ≡ Some (valued_at from to now kn) → output_met code c h f q ≡ w
     unfolding output_met
     output_is d = rw (d, pushed_is from to now kn valued.heap at knows same grown fits whole)
 
-  output_none : valued.answer ≡ ValuedOver → (output_met code c h f q).met ≡ MetOver
+  output_none : valued.answer ≡ None → (output_met code c h f q).met ≡ Err MetOver
   unfolding output_met
   output_none d = rw d
 
@@ -245,15 +243,15 @@ module _ (p : Prog) (bodies : ℕ → ℕ) (code : List ℕ) {h f q : List ℕ} 
     unfolding met_end
     end_means = met_means lim few steps within r a l held long (intersect over P) (output_met code c h f q) met.answered
 
-    pub end_kept : (left.ended ≡ Over) ⊎ EndKept c.used h left
+    pub end_kept : (left.ended ≡ Err Over) ⊎ EndKept c.used h left
     unfolding met_end
     end_kept = go (output_met code c h f q) met.kept
       where
         by : (w : MetLeft) (k : Met) → Kept c.used h w.heap w.frame w.q → EndKept c.used h (after_meeting steps lim.table l a w k)
-        by w (Common d) y = record { same = y.same; of_heap = y.of_heap; of_frame = y.of_frame; of_q = y.of_q }
-        by w Apart y = record { same = y.same; of_heap = y.of_heap; of_frame = y.of_frame; of_q = y.of_q }
-        by w MetOver y = record { same = y.same; of_heap = y.of_heap; of_frame = y.of_frame; of_q = y.of_q }
+        by w (Ok d) y = record { same = y.same; of_heap = y.of_heap; of_frame = y.of_frame; of_q = y.of_q }
+        by w (Err Contradiction) y = record { same = y.same; of_heap = y.of_heap; of_frame = y.of_frame; of_q = y.of_q }
+        by w (Err MetOver) y = record { same = y.same; of_heap = y.of_heap; of_frame = y.of_frame; of_q = y.of_q }
 
-        go : (w : MetLeft) → (w.met ≡ MetOver) ⊎ Kept c.used h w.heap w.frame w.q → ((after_meeting steps lim.table l a w w.met).ended ≡ Over) ⊎ EndKept c.used h (after_meeting steps lim.table l a w w.met)
+        go : (w : MetLeft) → (w.met ≡ Err MetOver) ⊎ Kept c.used h w.heap w.frame w.q → ((after_meeting steps lim.table l a w w.met).ended ≡ Err Over) ⊎ EndKept c.used h (after_meeting steps lim.table l a w w.met)
         go w (inl i) = inl (rw i)
         go w (inr y) = inr (by w w.met y)

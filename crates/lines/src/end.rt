@@ -1,21 +1,21 @@
 // "A state whose term is an e is an end; its value is the output." The output stands behind inputs and wanted output in place of the environment.
 ghost use Rattle.std.specs.Prelude.{◌≡◌};
 ghost use Rattle.meetings.specs.Twins.Unifying.{met_left};
-ghost use Rattle.lines.specs.Twins.Ends.{class_at, output_met, ended_as, end_left, met_end};
+ghost use Rattle.lines.specs.Twins.Ends.{class_at, output_met, end_left, met_end};
 
-use crate::line::{Added, Lines, add_line};
+use crate::line::{Lines, add_line};
 use heap::configuration::Configuration;
 use heap::entry::push_entry;
 use meetings::class::{Class, Met};
 use meetings::unifier::unify;
+use restrictions::failure::Failure;
 use saving::head::Node;
 use values::names::names_from;
-use values::value::{Valued, value};
+use values::value::value;
 
-// Going: the lines there are then. Over: 21. Full: 22.
-#[derive(Drop)]
-pub enum Ended {
-    Going(Lines),
+// Why an end stops the walk. Over: 21. Full: 22.
+#[derive(Clone, Copy)]
+pub enum Unstored {
     Over,
     Full,
 }
@@ -25,7 +25,7 @@ fn class_at(c: Configuration, used: usize) -> Class
 {
     Class {
         entries: names_from(c),
-        used: used,
+        used,
         neqs: c.neqs,
         floor: c.used,
     }
@@ -42,31 +42,14 @@ fn meet_output(
     ensures { met_left result heap.new frame.new q.new ≡ output_met code.now c heap.old frame.old q.old }
 {
     let base = names_from(c);
-    let v = value(code, heap, frame, base, c.used, c.place);
-    match v {
-        Valued::At {
-            from,
-            to,
-            used,
-            known,
-        } => {
-            push_entry(frame, base, known, from, to);
-            unify(heap, frame, q, class_at(c, used))
-        }
-        Valued::Over => Met::Over,
-    }
+    let Some(v) = value(code, heap, frame, base, c.used, c.place) else {
+        return Err(Failure::Over);
+    };
+    push_entry(frame, base, v.known, v.from, v.to);
+    unify(heap, frame, q, class_at(c, v.used))
 }
 
-fn ended_as(a: Added) -> Ended
-    ensures { result ≡ ended_as a }
-{
-    match a {
-        Added::Going(l) => Ended::Going(l),
-        Added::Full => Ended::Full,
-    }
-}
-
-// "Failure or contradiction gives no line".
+// The lines there are then: "Failure or contradiction gives no line".
 pub fn meet_end(
     code: &[u16; 24582],
     heap: &mut [u16; 65535],
@@ -76,13 +59,12 @@ pub fn meet_end(
     n: Node,
     table: usize,
     l: Lines,
-) -> Ended
+) -> Result<Lines, Unstored>
     ensures { end_left result heap.new frame.new q.new answer.new ≡ met_end code.now n table l heap.old frame.old q.old answer.old }
 {
-    let m = meet_output(code, heap, frame, q, n.at);
-    match m {
-        Met::Common(c) => ended_as(add_line(heap, frame, q, answer, c, n.steps, table, l)),
-        Met::Apart => Ended::Going(l),
-        Met::Over => Ended::Over,
+    match meet_output(code, heap, frame, q, n.at) {
+        Ok(c) => add_line(heap, frame, q, answer, c, n.steps, table, l).ok_or(Unstored::Full),
+        Err(Failure::Contradiction) => Ok(l),
+        Err(Failure::Over) => Err(Unstored::Over),
     }
 }

@@ -2,7 +2,6 @@
 ghost use Rattle.std.specs.Prelude.{◌≡◌};
 ghost use Rattle.lines.specs.Twins.Lines.{nodes_in_line, lines_more, add_left, line_added};
 
-use cells::cell;
 use heap::entry;
 use meetings::class::Class;
 use meetings::line::put_line;
@@ -15,31 +14,24 @@ pub struct Lines {
     pub top: usize,
 }
 
-// Going: the lines now. Full: 22.
-#[derive(Drop)]
-pub enum Added {
-    Going(Lines),
-    Full,
-}
-
 // "inputs, output, 2 for each non-equality"; a count above 65,535 is as one of 65,535, which no storage holds.
 fn line_nodes(frame: &[u16; 12360], c: Class) -> usize
     ensures { result ≡ nodes_in_line c frame.now }
 {
-    cell::least(entry::nodes(frame, c.entries), 65535) + 2 * cell::least(c.neqs, 65535)
+    entry::nodes(frame, c.entries).min(65535) + 2 * c.neqs.min(65535)
 }
 
 fn one_more(l: Lines, nodes: usize, top: usize) -> Lines
     ensures { result ≡ lines_more l nodes top }
 {
     Lines {
-        count: cell::least(l.count, 65535) + 1,
-        nodes: nodes,
-        top: top,
+        count: l.count.min(65535) + 1,
+        nodes,
+        top,
     }
 }
 
-// "22 a line would be number T+1, or take the lines .. over 16,384 nodes"
+// The lines now. None: "22 a line would be number T+1, or take the lines .. over 16,384 nodes".
 pub fn add_line(
     heap: &[u16; 65535],
     frame: &[u16; 12360],
@@ -49,16 +41,16 @@ pub fn add_line(
     steps: usize,
     table: usize,
     l: Lines,
-) -> Added
+) -> Option<Lines>
     ensures { add_left result answer.new ≡ line_added c steps table l heap.now frame.now q.now answer.old }
 {
     if table <= l.count {
-        return Added::Full;
+        return None;
     }
-    let nodes = cell::least(l.nodes, 65535) + line_nodes(frame, c);
+    let nodes = l.nodes.min(65535) + line_nodes(frame, c);
     if 16384 < nodes {
-        return Added::Full;
+        return None;
     }
     let top = put_line(heap, frame, q, c, steps, answer, l.top);
-    Added::Going(one_more(l, nodes, top))
+    Some(one_more(l, nodes, top))
 }

@@ -1,5 +1,5 @@
 -- One turn of each loop, and the parts of a conditional one by one.
-use Prim.Native.Nat.{ℕ, zero, suc, ◌+◌, ◌-◌, ◌≤◌, ◌<◌}
+use Prim.Native.Nat.{ℕ, zero, suc, ◌+◌, ◌-◌, ◌≤◌, ◌<◌, max}
 use mathlib.Core.Path.{◌≡◌, refl}
 use mathlib.Core.Bool.{cond}
 use mathlib.Core.List.{List}
@@ -20,9 +20,9 @@ some_left c j l = omega arith
 pub all_left : (c : ℕ) → c - 0 ≡ c
 all_left c = omega arith
 
-pub place_end : {n j : ℕ} → n ≤ j → (marks nums names : List ℕ) (i : ℕ) → place_from marks nums names (n - j) j i ≡ j
+pub place_end : {n j : ℕ} → n ≤ j → j ≤ n → (marks nums names : List ℕ) (i : ℕ) → place_from marks nums names (n - j) j i ≡ n
 unfolding place_from
-place_end {n} {j} l marks nums names i = rw (none_left n j l)
+place_end {n} {j} l h marks nums names i = let e : j ≡ n = omega arith in rw (none_left n j l, e)
 
 pub place_turn : {n j : ℕ} → j < n → (marks nums names : List ℕ) (i : ℕ) →
     place_from marks nums names (n - j) j i ≡ cond (same_name marks nums (get_or names j 0) i) j (place_from marks nums names (n - (j + 1)) (j + 1) i)
@@ -38,9 +38,9 @@ pub head_turn : {n j : ℕ} → j < n → (nums heads : List ℕ) (x : ℕ) →
 unfolding head_from
 head_turn {n} {j} l nums heads x = rw (some_left n j l)
 
-pub closing_end : {n q : ℕ} → n ≤ q → (marks : List ℕ) → closing_from marks (n - q) q ≡ q
+pub closing_end : {n p q : ℕ} → n ≤ q → p ≤ q → q ≤ max p n → (marks : List ℕ) → closing_from marks (n - q) q ≡ max p n
 unfolding closing_from
-closing_end {n} {q} l marks = rw (none_left n q l)
+closing_end {n} {p} {q} l f h marks = let e : q ≡ max p n = omega arith in rw (none_left n q l, e)
 
 pub closing_turn : {n q : ℕ} → q < n → (marks : List ℕ) → closing_from marks (n - q) q ≡ cond (eqb (key_of marks q) 4) q (closing_from marks (n - (q + 1)) (q + 1))
 unfolding closing_from

@@ -9,7 +9,8 @@
 //     TEST     true branch  false branch   the index past the `if`; what its `cons?` tests begins four tokens on
 //
 // A name's place is counted from the first name in reach: the parameters in order, then what each `cons?` on the way binds. The tokens at which names
-// are bound need no link: a name that is bound comes behind those in reach.
+// are bound need no link: a name that is bound comes behind those in reach. A mark is a number and no enum, since a program lies in cells (no heap, fixed memory)
+// and specs/Twins/Code.antt says of cells of any content what a token is linked to.
 ghost use Rattle.std.specs.Prelude.{◌≡◌};
 ghost use Rattle.linking.specs.Twins.Code.{link_at, with_link};
 
@@ -38,6 +39,7 @@ pub struct Link {
 }
 
 // The token i; nothing past the last one.
+#[tactic(auto, unfolding(crate::specs::Twins::Code::link_at))]
 pub fn link_at(code: &[u16; 24582], i: usize) -> Link
     ensures { result ≡ link_at code.now i }
 {
@@ -58,6 +60,7 @@ pub fn link_at(code: &[u16; 24582], i: usize) -> Link
 }
 
 // The token i set, where there is one.
+#[tactic(auto, unfolding(crate::specs::Twins::Code::with_link))]
 pub(crate) fn set_link(code: &mut [u16; 24582], i: usize, l: Link)
     ensures { code.new ≡ with_link i l code.old }
 {

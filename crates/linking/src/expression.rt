@@ -5,6 +5,7 @@ ghost use Rattle.linking.specs.Twins.Linking.{token_link, range_linked};
 
 use crate::code::{CELL, Link, NAME, NOTHING, set_link};
 use crate::names::place_of;
+use crate::source::Source;
 use crate::tokens::{key, kind};
 use cells::cell;
 use links::link::is_pair;
@@ -15,58 +16,57 @@ fn link_of(mark: u16, first: u16, past: u16) -> Link
     ensures { result ≡ link mark first 0 past }
 {
     Link {
-        mark: mark,
-        first: first,
+        mark,
+        first,
         second: 0,
-        past: past,
+        past,
     }
 }
 
 // A symbol or `cons` is a cell, a name its place; brackets are nothing.
-fn token_link(
-    marks: &[u16],
-    nums: &[u16],
-    ends: &[u16],
-    names: &[usize; 144],
-    used: usize,
-    i: usize,
-) -> Link
-    ensures { result ≡ token_link marks.now nums.now ends.now names.now used i }
+#[tactic(auto, unfolding(crate::specs::Twins::Linking::token_link))]
+fn token_link(p: Source<'_>, names: &[usize; 144], used: usize, i: usize) -> Link
+    ensures { result ≡ token_link p.entry.marks.now p.entry.nums.now p.entry.ends.now names.now used i }
 {
-    let past = cell::cell(ends, i);
-    if is_pair(key(marks, i)) {
+    let past = cell::cell(p.ends, i);
+    if is_pair(key(p.marks, i)) {
         return link_of(CELL, tree::PAIR, past);
     }
-    let tag = kind(marks, i);
+    let tag = kind(p.marks, i);
     if tag == SYMBOL {
-        return link_of(CELL, contraction::code(cell::cell(nums, i), 1), past);
+        return link_of(CELL, contraction::code(cell::cell(p.nums, i), 1), past);
     }
     if tag == ENAME {
-        return link_of(NAME, cell::low(place_of(marks, nums, names, used, i)), past);
+        return link_of(
+            NAME,
+            cell::low(place_of(p.marks, p.nums, names, used, i)),
+            past,
+        );
     }
     if tag == ANAME {
-        return link_of(NAME, cell::low(place_of(marks, nums, names, used, i)), past);
+        return link_of(
+            NAME,
+            cell::low(place_of(p.marks, p.nums, names, used, i)),
+            past,
+        );
     }
     link_of(NOTHING, 0, past)
 }
 
 // The tokens from `from` up to `to`.
+#[tactic(auto, using(crate::proofs::LinkTurns::range_turn, crate::proofs::LinkTurns::range_end))]
 pub(crate) fn link_range(
-    marks: &[u16],
-    nums: &[u16],
-    ends: &[u16],
+    p: Source<'_>,
     names: &[usize; 144],
     used: usize,
     code: &mut [u16; 24582],
     from: usize,
     to: usize,
 )
-    ensures { code.new ≡ range_linked marks.now nums.now ends.now names.now used (to - from) from code.old }
+    ensures { code.new ≡ range_linked p.entry.marks.now p.entry.nums.now p.entry.ends.now names.now used (to - from) from code.old }
 {
-    let mut i = from;
-    while i < to {
-        let l = token_link(marks, nums, ends, names, used, i);
+    for i in from..to {
+        let l = token_link(p, names, used, i);
         set_link(code, i, l);
-        i += 1;
     }
 }

@@ -19,25 +19,23 @@ pub fn kind(marks: &[u16], i: usize) -> u16
 }
 
 // "`e.x` and `a.x` are two variables."
+#[tactic(auto, unfolding(crate::specs::Twins::Linking::same_name))]
 pub(crate) fn same_name(marks: &[u16], nums: &[u16], i: usize, j: usize) -> bool
     ensures { result ≡ same_name marks.now nums.now i j }
 {
-    if kind(marks, i) == kind(marks, j) {
-        return cell::cell(nums, i) == cell::cell(nums, j);
-    }
-    false
+    kind(marks, i) == kind(marks, j) && cell::cell(nums, i) == cell::cell(nums, j)
 }
 
 // k tokens on.
 pub(crate) fn on(i: usize, k: usize) -> usize
     ensures { result ≡ on i k }
 {
-    cell::least(i, 4097) + cell::least(k, 4097)
+    i.min(4097) + k.min(4097)
 }
 
 // The index past what starts at i.
 pub(crate) fn past(ends: &[u16], i: usize) -> usize
     ensures { result ≡ get_or ends.now i 0 }
 {
-    cell::wide(cell::cell(ends, i))
+    usize::from(cell::cell(ends, i))
 }

@@ -7,21 +7,21 @@ use cells::cell;
 pub fn body_behind(close: usize) -> u16
     ensures { result ≡ (min close 4097 + 1) % 65536 }
 {
-    cell::low(cell::least(close, 4097) + 1)
+    cell::low(close.min(4097) + 1)
 }
 
 // The number of the last of so many definitions.
 pub fn last_of(count: usize) -> usize
     ensures { result ≡ count - 1 }
 {
-    cell::less(count, 1)
+    count.saturating_sub(1)
 }
 
 // The bracket that opens the definition whose name stands here: "`(define F [x ..] t)`".
 pub fn bracket_of(name: usize) -> usize
     ensures { result ≡ name - 2 }
 {
-    cell::less(name, 2)
+    name.saturating_sub(2)
 }
 
 // The key of `cons` (words/src/keys.rt): "e: `(cons e e)`, xe or ea".

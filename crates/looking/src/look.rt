@@ -2,11 +2,10 @@
 ghost use Rattle.std.specs.Prelude.{◌≡◌};
 ghost use Rattle.looking.specs.Twins.Looking.{head_end_in, tested_at, look_left, look_at};
 
-use cells::cell;
 use heap::configuration::Configuration;
 use sets::tree;
 use values::names::names_from;
-use values::value::{Valued, value};
+use values::value::value;
 
 // Atom: an atom or a `?a` in this range. Pair: its head from `from` up to `mid`, its tail from there. Variable: a `?e`, which only a name's value is, so that
 // nothing was written. Large: the heap has no room for the value. `used` is what is used of the heap with the value in it.
@@ -36,7 +35,7 @@ fn head_end(heap: &[u16; 65535], at: usize, n: u16) -> usize
     if n == 0 {
         return tree::tree_end(heap, at);
     }
-    cell::least(at, 65535) + cell::wide(n)
+    at.min(65535) + usize::from(n)
 }
 
 // A range by its first cell.
@@ -51,19 +50,15 @@ fn test_range(heap: &[u16; 65535], from: usize, to: usize, used: usize, known: u
         let end = head_end(heap, from + 1, known / 2);
         return Tested::Pair {
             from: from + 1,
-            mid: cell::least(end, to),
-            to: to,
-            used: used,
+            mid: end.min(to),
+            to,
+            used,
         };
     }
     if x % 4 == 2 {
         return Tested::Variable { var: x };
     }
-    Tested::Atom {
-        from: from,
-        to: to,
-        used: used,
-    }
+    Tested::Atom { from, to, used }
 }
 
 // What the `cons?` at the configuration's place tests: its expression begins four tokens on.
@@ -75,15 +70,9 @@ pub fn look(
 ) -> Tested
     ensures { look_left result heap.new ≡ look_at code.now c heap.old frame.now }
 {
-    let i = cell::least(c.place, 4097) + 4;
-    let v = value(code, heap, frame, names_from(c), c.used, i);
-    match v {
-        Valued::At {
-            from,
-            to,
-            used,
-            known,
-        } => test_range(heap, from, to, used, known),
-        Valued::Over => Tested::Large,
+    let i = c.place.min(4097) + 4;
+    match value(code, heap, frame, names_from(c), c.used, i) {
+        Some(v) => test_range(heap, v.from, v.to, v.used, v.known),
+        None => Tested::Large,
     }
 }

@@ -1,32 +1,12 @@
 // The branches of a `cons?` on what is a pair or an atom already: its names are bound to ranges of the heap, and nothing is copied.
 ghost use Rattle.std.specs.Prelude.{◌≡◌};
 ghost use Rattle.heap.specs.Twins.Entries.{push_answer};
-ghost use Rattle.looking.specs.Twins.Taking.{placed_as, parts_bound, placed_with, taken, pair_taken, atom_taken};
+ghost use Rattle.looking.specs.Twins.Taking.{parts_bound, placed_with, taken, pair_taken, atom_taken};
 
-use heap::configuration::{Configuration, Moved};
-use heap::entry::{Pushed, push_entry};
+use heap::configuration::Configuration;
+use heap::entry::push_entry;
 use linking::code::link_at;
-
-// The configuration at a branch, with so many entries, so much used and this counter.
-pub fn placed(
-    c: Configuration,
-    entries: usize,
-    used: usize,
-    place: usize,
-    counter: u16,
-) -> Configuration
-    ensures { result ≡ placed_as c entries used place counter }
-{
-    Configuration {
-        inputs: c.inputs,
-        outputs: c.outputs,
-        entries: entries,
-        used: used,
-        neqs: c.neqs,
-        place: place,
-        counter: counter,
-    }
-}
+use restrictions::failure::Failure;
 
 // "its head and tail are then bound to the two xe": an entry each, behind those there are.
 pub fn bind_parts(
@@ -35,24 +15,29 @@ pub fn bind_parts(
     from: usize,
     mid: usize,
     to: usize,
-) -> Pushed
+) -> Option<usize>
     ensures { push_answer result frame.new ≡ parts_bound entries from mid to frame.old }
 {
-    let p = push_entry(frame, entries, 0, from, mid);
-    match p {
-        Pushed::Done(n) => push_entry(frame, n, 0, mid, to),
-        Pushed::Full => Pushed::Full,
-    }
+    let n = push_entry(frame, entries, 0, from, mid)?;
+    push_entry(frame, n, 0, mid, to)
 }
 
 // With the names bound, at a branch.
-fn placed_with(c: Configuration, used: usize, place: usize, p: Pushed) -> Moved
+fn placed_with(
+    c: Configuration,
+    used: usize,
+    place: usize,
+    p: Option<usize>,
+) -> Result<Configuration, Failure>
     ensures { result ≡ placed_with c used place p }
 {
-    match p {
-        Pushed::Done(n) => Moved::On(placed(c, n, used, place, c.counter)),
-        Pushed::Full => Moved::Over,
-    }
+    let entries = p.ok_or(Failure::Over)?;
+    Ok(Configuration {
+        entries,
+        used,
+        place,
+        ..c
+    })
 }
 
 // The true branch on a pair with these parts.
@@ -64,11 +49,10 @@ pub fn take_pair(
     mid: usize,
     to: usize,
     used: usize,
-) -> Moved
+) -> Result<Configuration, Failure>
     ensures { taken result frame.new ≡ pair_taken code.now c from mid to used frame.old }
 {
-    let l = link_at(code, c.place);
-    let place = l.first as usize;
+    let place = usize::from(link_at(code, c.place).first);
     let p = bind_parts(frame, c.entries, from, mid, to);
     placed_with(c, used, place, p)
 }
@@ -81,11 +65,10 @@ pub fn take_atom(
     from: usize,
     to: usize,
     used: usize,
-) -> Moved
+) -> Result<Configuration, Failure>
     ensures { taken result frame.new ≡ atom_taken code.now c from to used frame.old }
 {
-    let l = link_at(code, c.place);
-    let place = l.second as usize;
+    let place = usize::from(link_at(code, c.place).second);
     let p = push_entry(frame, c.entries, 0, from, to);
     placed_with(c, used, place, p)
 }

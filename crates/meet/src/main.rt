@@ -16,15 +16,13 @@
 mod printer;
 mod reader;
 
-ghost use Rattle.std.specs.Prelude.{◌≤◌, length};
-
-use cells::cell;
 use heap::entry;
 use meetings::class::{Class, Met, NODES};
 use meetings::unifier;
-use reader::Problem;
+use printer::{Page, Words};
+use reader::{Problem, Unread};
+use restrictions::failure::Failure;
 use restrictions::restriction;
-use restrictions::restriction::Restricted;
 use sets::tree;
 use std::env::{Env, FillError};
 use std::io;
@@ -41,9 +39,9 @@ const PATH: usize = 4096;
 const WRITTEN: usize = 18724;
 
 // The entries of the two expressions, where they were read: first the wanted one.
-fn enter(frame: &mut [u16; 12360], wanted: usize, output: usize) {
-    entry::push_entry(frame, 0, 0, 0, wanted);
-    entry::push_entry(frame, 1, 0, NODES, NODES + cell::least(output, NODES));
+fn enter(frame: &mut [u16; 12360], problem: Problem) {
+    entry::push_entry(frame, 0, 0, 0, problem.wanted);
+    entry::push_entry(frame, 1, 0, NODES, NODES + problem.output.min(NODES));
 }
 
 // The intersection of the two expressions in the heap, with the non-equalities that were written; a contradiction among
@@ -54,20 +52,15 @@ fn meet(
     frame: &mut [u16; 12360],
     written: &mut [u16],
     q: &mut [u16; 4096],
-    wanted: usize,
-    output: usize,
-    neqs: usize,
+    problem: Problem,
 ) -> Met {
-    let simplified = restriction::simplify(written, neqs);
-    let Restricted::Kept(n) = simplified else {
-        return Met::Apart;
-    };
-    tree::copy(written, 0, 2 * cell::least(n, NODES / 2), q, 0);
-    enter(frame, wanted, output);
+    let neqs = restriction::simplify(written, problem.neqs)?;
+    tree::copy(written, 0, 2 * neqs.min(NODES / 2), q, 0);
+    enter(frame, problem);
     let class = Class {
         entries: 1,
         used: 2 * NODES,
-        neqs: n,
+        neqs,
         floor: 0,
     };
     unifier::unify(heap, frame, q, class)
@@ -75,109 +68,59 @@ fn meet(
 
 // Prints what is left: the wanted expression is the first entry.
 fn print_met(
-    out: &impl Print,
-    page: &mut [u8; printer::PAGE],
-    at: usize,
-    text: &[u8],
-    names: &[usize],
+    page: &mut Page<impl Print>,
+    words: Words,
     heap: &[u16; 65535],
     frame: &[u16; 12360],
     q: &[u16; 4096],
     met: Met,
-) -> io::Result<usize> {
+) -> io::Result<()> {
     match met {
-        Met::Common(c) => {
-            let to = cell::wide(frame[2]);
-            let from = cell::least(cell::wide(frame[1]), to);
-            let cells: &[u16] = heap;
-            printer::common(out, page, at, text, names, &cells[from..to], q, c.neqs)
+        Ok(c) => {
+            let to = usize::from(frame[2]);
+            let from = usize::from(frame[1]).min(to);
+            page.common(words, &heap[from..to], q, c.neqs)
         }
-        Met::Apart => printer::line(out, page, at, b"apart"),
-        Met::Over => printer::line(out, page, at, b"over"),
-    }
-}
-
-// Prints the answer to a problem, whose cells stand in the heap and in `written`.
-fn print_answer(
-    out: &impl Print,
-    page: &mut [u8; printer::PAGE],
-    at: usize,
-    text: &[u8],
-    names: &[usize],
-    heap: &mut [u16; 65535],
-    frame: &mut [u16; 12360],
-    written: &mut [u16],
-    problem: Problem,
-) -> io::Result<usize> {
-    match problem {
-        Problem::Blank => Ok(at),
-        Problem::Broken(offset) => printer::broken(out, page, at, offset),
-        Problem::Whole {
-            wanted,
-            output,
-            neqs,
-        } => {
-            let mut q = [0u16; 4096];
-            let met = meet(heap, frame, written, &mut q, wanted, output, neqs);
-            print_met(out, page, at, text, names, heap, frame, &q, met)
-        }
+        Err(Failure::Contradiction) => page.line(b"apart"),
+        Err(Failure::Over) => page.line(b"over"),
     }
 }
 
 // Prints the answer to a line. Nothing that stands in the heap or in the frame before is read.
 fn answer(
-    out: &impl Print,
+    page: &mut Page<impl Print>,
     text: &[u8],
-    page: &mut [u8; printer::PAGE],
-    at: usize,
     heap: &mut [u16; 65535],
     frame: &mut [u16; 12360],
-) -> io::Result<usize> {
-    let mut space = [0u16; WRITTEN];
-    let mut name_space = [0usize; reader::SYMBOLS];
-    let written: &mut [u16] = &mut space;
-    let names: &mut [usize] = &mut name_space;
-    let problem = reader::read_problem(text, heap, written, names);
-    print_answer(out, page, at, text, names, heap, frame, written, problem)
-}
-
-// The end of the line that starts at `from`.
-fn line_end(text: &[u8], from: usize) -> usize
-    requires { from ≤ length text.now }
-    ensures { (from ≤ result) × (result ≤ length text.now) }
-{
-    let mut i = from;
-    while i < text.len() {
-        if text[i] == b'\n' {
-            return i;
+) -> io::Result<()> {
+    let mut written = [0u16; WRITTEN];
+    let mut names = [0usize; reader::SYMBOLS];
+    match reader::read_problem(text, heap, &mut written, &mut names) {
+        Err(Unread::Blank) => Ok(()),
+        Err(Unread::Broken(broken)) => page.broken(broken.at),
+        Ok(problem) => {
+            let mut q = [0u16; 4096];
+            let met = meet(heap, frame, &mut written, &mut q, problem);
+            let words = Words {
+                text,
+                names: &names,
+            };
+            print_met(page, words, heap, frame, &q, met)
         }
-        i += 1;
     }
-    i
 }
 
-// Prints the answer to each line.
-fn answers(out: &impl Print, text: &[u8], page: &mut [u8; printer::PAGE]) -> io::Result<usize> {
-    let mut heap = [0u16; 65535];
-    let mut frame = [0u16; 12360];
-    let mut k: usize = 0;
-    let mut from: usize = 0;
-    while from < text.len() {
-        let end = line_end(text, from);
-        let line = &text[from..end];
-        k = answer(out, line, page, k, &mut heap, &mut frame)?;
-        from = end + 1;
-    }
-    Ok(k)
-}
-
-// Reads the text and prints the answers.
+// Reads the text and prints the answer to each line.
 fn run<R: Read>(reader: &mut R, out: &impl Print) -> io::Result<()> {
     let mut text = [0u8; TEXT];
     let n = read_full(reader, &mut text)?;
-    let mut page = [0u8; printer::PAGE];
-    let k = answers(out, &text[..n], &mut page)?;
-    printer::flush(out, &page, k)
+    let mut heap = [0u16; 65535];
+    let mut frame = [0u16; 12360];
+    let mut page = Page::new(out);
+    for line in text[..n].split(|b| *b == b'\n') {
+        answer(&mut page, line, &mut heap, &mut frame)?;
+    }
+    page.flush()
 }
 
 // Standard input, or the file that the first argument names; standard error has why that one cannot be opened.

@@ -1,10 +1,9 @@
 // From the bytes of a line to cells. A place past the end of the line has the byte 0, which stands in no token, so a line
 // that ends early is broken at its length.
-ghost use Rattle.std.specs.Prelude.{◌≤◌};
+ghost use Rattle.std.specs.Prelude.{◌≤◌, length, max, IfOk, IfSome};
 ghost use Rattle.meet.specs.Twins.Reading.{Onward, Behind};
 
-use brackets::place::{Place, Read, inside, pass};
-use cells::cell;
+use brackets::place::{Broken, Place, inside, pass};
 use cells::cell::byte;
 use cells::part::part;
 use meetings::class::NODES;
@@ -15,283 +14,220 @@ pub const BRACKETS: usize = 64;
 
 pub const SYMBOLS: usize = 1024;
 
-// Blank: nothing stands in the line. Whole: the cells of the two expressions, and the non-equalities.
-#[derive(Drop)]
-pub enum Problem {
-    Blank,
-    Whole {
-        wanted: usize,
-        output: usize,
-        neqs: usize,
-    },
-    Broken(usize),
+// How many cells the two expressions have, and the non-equalities.
+#[derive(Clone, Copy)]
+pub struct Problem {
+    pub wanted: usize,
+    pub output: usize,
+    pub neqs: usize,
 }
 
-// The code of a word, 0 where the word is no leaf, and the symbols met with it.
-#[derive(Drop)]
+// Why a line is no problem. Blank: nothing stands in it.
+#[derive(Clone, Copy)]
+pub enum Unread {
+    Blank,
+    Broken(Broken),
+}
+
+impl From<Broken> for Unread {
+    fn from(broken: Broken) -> Unread {
+        Unread::Broken(broken)
+    }
+}
+
+// A leaf's code, and the symbols met with it.
+#[derive(Clone, Copy)]
 struct LeafCode {
     code: u16,
     symbols: usize,
 }
 
 fn is_blank(b: u8) -> bool {
-    match b {
-        b' ' | b'\t' => true,
-        _ => false,
-    }
+    matches!(b, b' ' | b'\t')
 }
 
 // Whether a word ends before this byte.
-pub fn ends_word(b: u8) -> bool {
-    match b {
-        b' ' | b'\t' | b'(' | b')' | b'[' | b']' => true,
-        _ => false,
-    }
+fn ends_word(b: u8) -> bool {
+    matches!(b, b' ' | b'\t' | b'(' | b')' | b'[' | b']')
 }
 
-fn is_letter_or_digit(b: u8) -> bool {
-    match b {
-        b'0'..=b'9' | b'A'..=b'Z' | b'a'..=b'z' => true,
-        _ => false,
+// The first place from `from` on whose byte is such a one, or the end of the text.
+fn find<F: Fn(u8) -> bool>(text: &[u8], from: usize, wanted: F) -> usize
+    requires { F.IsAlwaysCallable wanted }
+    ensures { from ≤ result }
+{
+    for i in from..text.len() {
+        if wanted(text[i]) {
+            return i;
+        }
     }
+    from.max(text.len())
 }
 
 // The place of the next token: behind the blanks.
 fn token(text: &[u8], from: usize) -> usize
     ensures { from ≤ result }
 {
-    let mut i = from;
-    while i < text.len() {
-        if !is_blank(text[i]) {
-            return i;
-        }
-        i += 1;
-    }
-    i
+    find(text, from, |b| !is_blank(b))
 }
 
 // The place behind the word that starts at `from`.
-fn word_end(text: &[u8], from: usize) -> usize
+pub fn word_end(text: &[u8], from: usize) -> usize
     ensures { from ≤ result }
 {
-    let mut i = from;
-    while i < text.len() {
-        if ends_word(text[i]) {
-            return i;
-        }
-        i += 1;
-    }
-    i
+    find(text, from, ends_word)
 }
 
-// Whether a word stands at a place, and ends there.
+// Whether a word, in which none ends, stands at a place, and ends there.
 fn stands(text: &[u8], at: usize, word: &[u8]) -> bool {
-    let mut k = at;
-    let mut i: usize = 0;
-    while i < word.len() {
-        if text.len() <= k {
-            return false;
-        }
-        if text[k] != word[i] {
-            return false;
-        }
-        k += 1;
-        i += 1;
-    }
-    word_end(text, k) == k
+    part(text, at, word_end(text, at)) == word
 }
 
 // "Z have 1 to 16 letters or digits"
 fn is_name(name: &[u8]) -> bool {
-    if name.len() == 0 {
-        return false;
-    }
-    if 16 < name.len() {
-        return false;
-    }
-    let mut i: usize = 0;
-    while i < name.len() {
-        if !is_letter_or_digit(name[i]) {
-            return false;
-        }
-        i += 1;
-    }
-    true
+    (1..=16).contains(&name.len()) && name.iter().all(|b| b.is_ascii_alphanumeric())
 }
 
-// A digit's value, and 10 for any other byte.
-fn digit(b: u8) -> u16
-    ensures { result ≤ 10 }
+// A digit's value.
+fn digit(b: u8) -> Option<u16>
+    ensures { IfSome result (λ d. d ≤ 9) }
 {
     match b {
-        b'0'..=b'9' => (b - b'0') as u16,
-        _ => 10,
+        b'0'..=b'9' => Some(u16::from(b - b'0')),
+        _ => None,
     }
 }
 
-// "Numerals are base ten, no leading noughts", "K is 1 to 999": its value, and 0 for any other word.
-fn number(numeral: &[u8]) -> u16
-    ensures { result ≤ 999 }
+// "Numerals are base ten, no leading noughts", "K is 1 to 999".
+fn number(numeral: &[u8]) -> Option<u16>
+    ensures { IfSome result (λ k. k ≤ 999) }
 {
-    if byte(numeral, 0) == b'0' {
-        return 0;
+    if let [] | [b'0', ..] = numeral {
+        return None;
     }
     let mut n: u16 = 0;
-    let mut i: usize = 0;
-    while i < numeral.len() {
-        let d = digit(numeral[i]);
-        if 9 < d {
-            return 0;
-        }
-        n = 10 * n + d;
+    for b in numeral {
+        n = 10 * n + digit(*b)?;
         if 999 < n {
-            return 0;
+            return None;
         }
-        i += 1;
     }
-    n
+    Some(n)
 }
 
 // The number of the symbol whose word this is, `symbols` for one that was not met.
 fn symbol_number(text: &[u8], word: &[u8], names: &[usize], symbols: usize) -> usize
     ensures { result ≤ symbols }
 {
-    let mut z: usize = 0;
-    while z < symbols {
+    for z in 0..symbols {
         if stands(text, name_at(names, z), word) {
             return z;
         }
-        z += 1;
     }
-    z
+    symbols
 }
 
 // The offset at which a symbol first stands; no symbol stands past the end of the names.
 pub fn name_at(names: &[usize], z: usize) -> usize {
-    if z < names.len() { names[z] } else { 0 }
+    names.get(z).copied().unwrap_or(0)
 }
 
 // Notes where a symbol first stands.
 fn put_name(names: &mut [usize], z: usize, at: usize) {
-    if z < names.len() {
-        names[z] = at;
+    if let Some(name) = names.get_mut(z) {
+        *name = at;
     }
 }
 
 // A symbol's code, and one symbol more where it was not met; one too many has no code.
-fn symbol(text: &[u8], at: usize, word: &[u8], names: &mut [usize], symbols: usize) -> LeafCode {
+fn symbol(
+    text: &[u8],
+    at: usize,
+    word: &[u8],
+    names: &mut [usize],
+    symbols: usize,
+) -> Option<LeafCode> {
     let z = symbol_number(text, word, names, symbols);
     if SYMBOLS <= z {
-        return LeafCode {
-            code: 0,
-            symbols: symbols,
-        };
+        return None;
     }
     let code = contraction::code(z as u16, 1);
     if z < symbols {
-        return LeafCode {
-            code: code,
-            symbols: symbols,
-        };
+        return Some(LeafCode { code, symbols });
     }
     put_name(names, z, at);
-    LeafCode {
-        code: code,
+    Some(LeafCode {
+        code,
         symbols: z + 1,
-    }
+    })
 }
 
-// The code of `?eK` or `?aK`, 0 where the word is neither.
-fn variable(word: &[u8]) -> u16 {
-    if word.len() < 3 {
-        return 0;
-    }
-    let k = number(&word[2..]);
-    if k == 0 {
-        return 0;
-    }
-    match byte(word, 1) {
-        b'e' => contraction::code(k, 2),
-        b'a' => contraction::code(k, 3),
-        _ => 0,
+// The code of `?eK` or `?aK`.
+fn variable(word: &[u8]) -> Option<u16> {
+    match word {
+        [_, b'e', numeral @ ..] => Some(contraction::code(number(numeral)?, 2)),
+        [_, b'a', numeral @ ..] => Some(contraction::code(number(numeral)?, 3)),
+        _ => None,
     }
 }
 
 // The leaf whose word stands from one place up to another.
-fn leaf(text: &[u8], at: usize, end: usize, names: &mut [usize], symbols: usize) -> LeafCode {
+fn leaf(
+    text: &[u8],
+    at: usize,
+    end: usize,
+    names: &mut [usize],
+    symbols: usize,
+) -> Option<LeafCode> {
     let word = part(text, at, end);
-    match byte(word, 0) {
-        b'\'' => {
-            if is_name(part(word, 1, word.len())) {
-                return symbol(text, at, word, names, symbols);
-            }
-            LeafCode {
-                code: 0,
-                symbols: symbols,
-            }
+    match word {
+        [b'\'', name @ ..] if is_name(name) => symbol(text, at, word, names, symbols),
+        [b'?', ..] => {
+            let code = variable(word)?;
+            Some(LeafCode { code, symbols })
         }
-        b'?' => LeafCode {
-            code: variable(word),
-            symbols: symbols,
-        },
-        _ => LeafCode {
-            code: 0,
-            symbols: symbols,
-        },
+        _ => None,
     }
 }
 
-// One cell more, at the next place; broken at the token where the run has no room. Here and below a line that is broken
-// stays so.
-fn store(cells: &mut [u16], code: u16, token: usize, next: Read) -> Read
+// One cell more, at the next place; broken at the token where the run has no room.
+fn store(cells: &mut [u16], code: u16, token: usize, next: Place) -> Result<Place, Broken>
     ensures { Behind next result }
 {
-    let Read::On(p) = next else {
-        return next;
-    };
-    let n = p.cells;
+    let n = next.cells;
     if cells.len() <= n {
-        return Read::Broken(token);
+        return Err(Broken { at: token });
     }
     cells[n] = code;
-    Read::On(Place {
-        at: p.at,
+    Ok(Place {
         cells: n + 1,
-        symbols: p.symbols,
+        ..next
     })
 }
 
 // Behind the bracket that must stand next.
-fn bracket(text: &[u8], from: Read, b: u8) -> Read
+fn bracket(text: &[u8], from: Place, b: u8) -> Result<Place, Broken>
     ensures { Onward from result }
 {
-    let Read::On(p) = from else {
-        return from;
-    };
-    let at = token(text, p.at);
-    pass(text, p, at, b)
+    pass(text, from, token(text, from.at), b)
 }
 
 // Behind the word `cons`.
-fn keyword(text: &[u8], from: Read) -> Read {
-    let Read::On(p) = from else {
-        return from;
-    };
-    let at = token(text, p.at);
+fn keyword(text: &[u8], from: Place) -> Result<Place, Broken> {
+    let at = token(text, from.at);
     if !stands(text, at, b"cons") {
-        return Read::Broken(at);
+        return Err(Broken { at });
     }
-    Read::On(Place {
+    Ok(Place {
         at: word_end(text, at),
-        cells: p.cells,
-        symbols: p.symbols,
+        ..from
     })
 }
 
 // Behind `(cons`, with the pair's cell stored; `at` is the bracket's place.
-fn pair_start(text: &[u8], from: Read, at: usize, cells: &mut [u16]) -> Read {
-    let opened = bracket(text, from, b'(');
-    let stored = store(cells, tree::PAIR, at, opened);
+fn pair_start(text: &[u8], from: Place, at: usize, cells: &mut [u16]) -> Result<Place, Broken> {
+    let opened = bracket(text, from, b'(')?;
+    let stored = store(cells, tree::PAIR, at, opened)?;
     keyword(text, stored)
 }
 
@@ -302,146 +238,120 @@ fn expression_leaf(
     at: usize,
     cells: &mut [u16],
     names: &mut [usize],
-) -> Read {
+) -> Result<Place, Broken> {
     let end = word_end(text, at);
-    let read = leaf(text, at, end, names, from.symbols);
-    if read.code == 0 {
-        return Read::Broken(at);
+    let read = leaf(text, at, end, names, from.symbols).ok_or(Broken { at })?;
+    let next = Place {
+        at: end,
+        cells: from.cells,
+        symbols: read.symbols,
+    };
+    store(cells, read.code, at, next)
+}
+
+// An expression, while at most `open` more brackets may be open together.
+fn expression(
+    text: &[u8],
+    from: Place,
+    open: usize,
+    cells: &mut [u16],
+    names: &mut [usize],
+) -> Result<Place, Broken> {
+    let at = token(text, from.at);
+    if byte(text, at) != b'(' {
+        return expression_leaf(text, from, at, cells, names);
+    }
+    if open == 0 {
+        return Err(Broken { at });
+    }
+    let start = pair_start(text, from, at, cells)?;
+    let left = inside(open);
+    let head = expression(text, start, left, cells, names)?;
+    let tail = expression(text, head, left, cells, names)?;
+    bracket(text, tail, b')')
+}
+
+// A side of a non-equality: a symbol or a `?a`.
+fn side(text: &[u8], from: Place, q: &mut [u16], names: &mut [usize]) -> Result<Place, Broken>
+    ensures { Behind from result }
+{
+    let at = token(text, from.at);
+    let end = word_end(text, at);
+    let read = leaf(text, at, end, names, from.symbols).ok_or(Broken { at })?;
+    if read.code % 2 == 0 {
+        return Err(Broken { at });
     }
     let next = Place {
         at: end,
         cells: from.cells,
         symbols: read.symbols,
     };
-    store(cells, read.code, at, Read::On(next))
-}
-
-// An expression, while at most `open` more brackets may be open together.
-fn expression(
-    text: &[u8],
-    from: Read,
-    open: usize,
-    cells: &mut [u16],
-    names: &mut [usize],
-) -> Read {
-    let Read::On(p) = from else {
-        return from;
-    };
-    let at = token(text, p.at);
-    if byte(text, at) != b'(' {
-        return expression_leaf(text, p, at, cells, names);
-    }
-    if open == 0 {
-        return Read::Broken(at);
-    }
-    let start = pair_start(text, Read::On(p), at, cells);
-    let left = inside(open);
-    let head = expression(text, start, left, cells, names);
-    let tail = expression(text, head, left, cells, names);
-    bracket(text, tail, b')')
-}
-
-// A side of a non-equality: a symbol or a `?a`.
-fn side(text: &[u8], from: Read, q: &mut [u16], names: &mut [usize]) -> Read
-    ensures { Behind from result }
-{
-    let Read::On(p) = from else {
-        return from;
-    };
-    let at = token(text, p.at);
-    let end = word_end(text, at);
-    let read = leaf(text, at, end, names, p.symbols);
-    if read.code % 2 == 0 {
-        return Read::Broken(at);
-    }
-    let next = Place {
-        at: end,
-        cells: p.cells,
-        symbols: read.symbols,
-    };
-    store(q, read.code, at, Read::On(next))
+    store(q, read.code, at, next)
 }
 
 // A non-equality, `[D D]`.
-fn non_equality(text: &[u8], from: Read, q: &mut [u16], names: &mut [usize]) -> Read
+fn non_equality(
+    text: &[u8],
+    from: Place,
+    q: &mut [u16],
+    names: &mut [usize],
+) -> Result<Place, Broken>
     ensures { Onward from result }
 {
-    let opened = bracket(text, from, b'[');
-    let left = side(text, opened, q, names);
-    let right = side(text, left, q, names);
+    let opened = bracket(text, from, b'[')?;
+    let left = side(text, opened, q, names)?;
+    let right = side(text, left, q, names)?;
     bracket(text, right, b']')
 }
 
 // The non-equalities up to the line's end. Each moves on, so that the loop ends.
-fn non_equalities(text: &[u8], from: Read, q: &mut [u16], names: &mut [usize]) -> Read {
-    let Read::On(start) = from else {
-        return from;
-    };
-    let mut place = start;
+fn non_equalities(
+    text: &[u8],
+    from: Place,
+    q: &mut [u16],
+    names: &mut [usize],
+) -> Result<Place, Broken> {
+    let mut place = from;
     while token(text, place.at) < text.len() {
-        let read = non_equality(text, Read::On(place), q, names);
-        let Read::On(next) = read else {
-            return read;
-        };
-        place = next;
+        place = non_equality(text, place, q, names)?;
     }
-    Read::On(place)
+    Ok(place)
 }
 
 // The same place, where a new run of cells starts.
-fn new_run(from: Read) -> Read {
-    match from {
-        Read::On(p) => Read::On(Place {
-            at: p.at,
-            cells: 0,
-            symbols: p.symbols,
-        }),
-        Read::Broken(at) => Read::Broken(at),
-    }
-}
-
-// How many cells the run has.
-fn run_cells(read: &Read) -> usize {
-    match read {
-        Read::On(p) => p.cells,
-        Read::Broken(_) => 0,
-    }
+fn new_run(from: Place) -> Place {
+    Place { cells: 0, ..from }
 }
 
 // A line: the wanted expression into the first 4,096 cells, the output into the next, the non-equalities into q.
-pub fn read_problem(text: &[u8], cells: &mut [u16], q: &mut [u16], names: &mut [usize]) -> Problem {
+pub fn read_problem(
+    text: &[u8],
+    cells: &mut [u16],
+    q: &mut [u16],
+    names: &mut [usize],
+) -> Result<Problem, Unread> {
     if text.len() <= token(text, 0) {
-        return Problem::Blank;
+        return Err(Unread::Blank);
     }
     let start = Place {
         at: 0,
         cells: 0,
         symbols: 0,
     };
-    let end = cell::least(2 * NODES, cells.len());
-    let middle = cell::least(NODES, end);
-    let wanted = expression(
-        text,
-        Read::On(start),
-        BRACKETS,
-        &mut cells[0..middle],
-        names,
-    );
-    let wanted_cells = run_cells(&wanted);
+    let end = cells.len().min(2 * NODES);
+    let middle = end.min(NODES);
+    let wanted = expression(text, start, BRACKETS, &mut cells[..middle], names)?;
     let output = expression(
         text,
         new_run(wanted),
         BRACKETS,
         &mut cells[middle..end],
         names,
-    );
-    let output_cells = run_cells(&output);
-    match non_equalities(text, new_run(output), q, names) {
-        Read::Broken(at) => Problem::Broken(at),
-        Read::On(last) => Problem::Whole {
-            wanted: wanted_cells,
-            output: output_cells,
-            neqs: last.cells / 2,
-        },
-    }
+    )?;
+    let last = non_equalities(text, new_run(output), q, names)?;
+    Ok(Problem {
+        wanted: wanted.cells,
+        output: output.cells,
+        neqs: last.cells / 2,
+    })
 }

@@ -8,6 +8,8 @@ use native.Mathlib.Omega.{arith}
 use lib.Dec.{leb}
 use lib.ListN.{length}
 use borrow.Author.Tests.{ltb-false, leb-true}
+use Rattle.std.specs.Prelude.{Err}
+use Rattle.restrictions.specs.declared.failure.Failure.TheVariants.{Over}
 use Rattle.expressions.specs.Expression.{Exp, nodes_all}
 use Rattle.expressions.specs.Substitution.{Substitution, apply_all}
 use Rattle.expressions.specs.Restriction.{Restriction}
@@ -21,12 +23,11 @@ use Rattle.runs.proofs.RunLaws.{Below, below_self}
 use Rattle.heap.proofs.HeapLaws.{Range, Filling}
 use Rattle.heap.proofs.FrameLaws.{Held, Contracts, Outcome, contract_means}
 use Rattle.compaction.proofs.CompactLaws.{Compacted, compact_means}
-use Rattle.meetings.specs.Twins.Classes.{output_entry, with_used, with_neqs}
+use Rattle.meetings.specs.Twins.Classes.{Step, output_entry, with_used, with_neqs}
 use Rattle.meetings.specs.Twins.Binding.{StepLeft, bound_beside, grown_stores, entries_bound}
 use Rattle.meetings.specs.Twins.Unifying.{Roomed, roomed, roomed_by, room_made}
 use Rattle.meetings.specs.declared.class.Class.{Class}
-use Rattle.meetings.specs.declared.class.Met.TheVariants.{Over}
-use Rattle.meetings.specs.declared.class.Step.TheVariants.{On, End}
+use Rattle.std.specs.declared.ops.ControlFlow.TheVariants.{Continue, Break}
 use Rattle.meetings.proofs.KeepLaws.{below_then, Keeps, contract_keeps}
 use Rattle.meetings.proofs.ClassLaws.{trees, trees_length, trees_nodes, trees_apply, apply_length, over, MeetingHeld, few, all_entries, output_at_lem, class_over}
 
@@ -46,8 +47,8 @@ pub record Roomy (c : Class) (most : ℕ) : Type 0 where
 -- a binding made the meeting Q, or that is over
 pub record Stepped (Q : CRPair meeting) (floor : ℕ) (g : List ℕ) (w : StepLeft) : Type 0 where
   pub kept : Kept floor g w.heap w.frame w.q
-  pub ends : over Q ≡ true → w.step ≡ End Over
-  pub goes : over Q ≡ false → (c : Class) × (w.step ≡ On c) × (c.floor ≡ floor) × MeetingHeld Q w.heap w.frame w.q c × Roomy c 61439
+  pub ends : over Q ≡ true → w.step ≡ Break (Err Over)
+  pub goes : over Q ≡ false → (c : Class) × (w.step ≡ Continue c) × (c.floor ≡ floor) × MeetingHeld Q w.heap w.frame w.q c × Roomy c 61439
 
 module _ {P : CRPair meeting} {h f q : List ℕ} {c : Class} (m : MeetingHeld P h f q c) (r : Roomy c 57343) {x vfrom vto : ℕ} {v : List ℕ} {s : Substitution} (fill : Filling x v s)
     (value : Range h c.used vfrom vto v) (qs : Restriction) (p : List ℕ) (k : ℕ) (is : k ≡ length qs) (front : Front qs p) (of-p : length p ≡ 4096) where
@@ -93,7 +94,7 @@ module _ {P : CRPair meeting} {h f q : List ℕ} {c : Class} (m : MeetingHeld P 
   })
   outcome w b (inr a) = rw (a.done, class_over (held_after w a)) (record { kept = kept_all w b; ends = λ e. rw e; goes = goes })
     where
-      goes : over Q ≡ false → (d : Class) × (cond (over Q) (End Over) (On (after a.now)) ≡ On d) × (d.floor ≡ c.floor) × MeetingHeld Q w.heap w.frame p d × Roomy d 61439
+      goes : over Q ≡ false → (d : Class) × (cond {A = Step} (over Q) (Break (Err Over)) (Continue (after a.now)) ≡ Continue d) × (d.floor ≡ c.floor) × MeetingHeld Q w.heap w.frame p d × Roomy d 61439
       goes e = (
         after a.now,
         rw e,

@@ -1,10 +1,12 @@
 -- One turn of the search for the first difference.
-use Prim.Native.Nat.{ℕ, suc, ◌+◌, ◌≤◌, ◌<◌}
+use Prim.Native.Nat.{ℕ, suc, ◌+◌, ◌-◌, ◌≤◌, ◌<◌, min}
 use mathlib.Core.Path.{◌≡◌, refl, ap₂}
+use mathlib.Core.Bool.{Bool, true, false}
 use mathlib.Core.List.{List, [], ◌∷◌}
+use lib.Dec.{leb}
 use native.Mathlib.Omega.{arith}
 use lib.ListN.{get_or}
-use borrow.Author.Tests.{eq-eqb, ne_eqb}
+use borrow.Author.Tests.{eq-eqb, ne_eqb, leb-true, leb-false}
 use Rattle.runs.specs.Twins.Runs.{run}
 use Rattle.runs.proofs.RunLaws.{run_cons, run_end}
 use Rattle.meetings.specs.Twins.Differing.{common_front, first_difference}
@@ -39,6 +41,13 @@ module _ (p wto k uto : ℕ) (h : List ℕ) where
   common_short : uto ≤ k → common_front (run p wto h) (run k uto h) ≡ 0
   common_short l = rw (run_end k uto h l) (common_none (run p wto h))
 
+  common_over : min (wto - p) (uto - k) ≤ 0 → common_front (run p wto h) (run k uto h) ≡ 0
+  common_over l = pick (leb wto p) refl
+    where
+      pick : (b : Bool) → leb wto p ≡ b → common_front (run p wto h) (run k uto h) ≡ 0
+      pick true e = common_end (leb-true wto p e)
+      pick false e = let m = leb-false wto p e in common_short (omega arith)
+
   pub difference_next : p < wto → k < uto → get_or h p 0 ≡ get_or h k 0 → first_difference p wto k uto h ≡ first_difference (p + 1) wto (k + 1) uto h
   unfolding first_difference
   difference_next l m e = let c = common_next l m e in ap₂ difference (omega arith) (omega arith)
@@ -46,8 +55,6 @@ module _ (p wto k uto : ℕ) (h : List ℕ) where
   pub difference_apart : p < wto → k < uto → (get_or h p 0 ≡ get_or h k 0 → ⊥) → difference p k ≡ first_difference p wto k uto h
   difference_apart l m e = here (common_apart l m e)
 
-  pub difference_end : wto ≤ p → difference p k ≡ first_difference p wto k uto h
-  difference_end l = here (common_end l)
-
-  pub difference_short : uto ≤ k → difference p k ≡ first_difference p wto k uto h
-  difference_short l = here (common_short l)
+  -- where one of them ends
+  pub difference_over : min (wto - p) (uto - k) ≤ 0 → difference p k ≡ first_difference p wto k uto h
+  difference_over l = here (common_over l)

@@ -7,9 +7,8 @@ use native.Mathlib.Omega.{arith}
 use lib.Dec.{eqb, leb, ltb}
 use lib.ListN.{length, get_or, length-set}
 use lib.Seq.{sets, length-sets}
+use Rattle.std.specs.Prelude.{Option, Some, None}
 use Rattle.sets.specs.Twins.Fill.{fill_answer}
-use Rattle.sets.specs.declared.fill.Filled.{Filled}
-use Rattle.sets.specs.declared.fill.Filled.TheVariants.{Done, Over}
 use Rattle.codes.specs.Twins.Knowing.{known_after, closed_as}
 use Rattle.codes.specs.Twins.Outcomes.{unmoved}
 use Rattle.runs.specs.Twins.Runs.{run, count_in, any_variable, written, appended_filled, replace_answer, moved_answer, replaced}
@@ -26,20 +25,20 @@ pub record Keeps (used : ℕ) (h f : List ℕ) (w : Stores) : Type 0 where
   pub same : Below used w.heap h
   pub size : length w.heap ≡ length h
   pub entries : length w.frame ≡ length f
-  pub grown : (k : ℕ) → w.answer ≡ Done k → used ≤ k
+  pub grown : (k : ℕ) → w.answer ≡ Some k → used ≤ k
 
 module _ (used : ℕ) (h f : List ℕ) where
-  keeps_over : Keeps used h f (stores Over h f)
+  keeps_over : Keeps used h f (stores None h f)
   keeps_over = record { same = below_self; size = refl; entries = refl; grown = λ k e. let z : ◌≡◌ {A = ℕ} 0 1 = cc in absurd (omega arith) }
 
-  keeps_done : Keeps used h f (stores (Done used) h f)
+  keeps_done : Keeps used h f (stores (Some used) h f)
   keeps_done = record { same = below_self; size = refl; entries = refl; grown = λ k e. let z : used ≡ k = cc in omega arith }
 
   written_keeps : (i size n : ℕ) (w : List ℕ) → Keeps used h f (entered_replaced i size used f (moved_answer (written used n w h)))
   unfolding written
   written_keeps i size n w = pick (leb (used + n) 65535)
     where
-      pick : (b : Bool) → Keeps used h f (entered_replaced i size used f (moved_answer (cond b (fill_answer (Done (used + n)) (sets h used w)) (fill_answer Over h))))
+      pick : (b : Bool) → Keeps used h f (entered_replaced i size used f (moved_answer (cond b (fill_answer (Some (used + n)) (sets h used w)) (fill_answer None h))))
       pick true = record {
         same = below_sets used w below_self (omega arith);
         size = length-sets h used w;
@@ -61,10 +60,10 @@ module _ (used : ℕ) (h f : List ℕ) where
       pick false true = unmoved_keeps i size (any_variable (run from (min to used) h))
       pick false false = written_keeps i size _ _
 
-  leaf_keeps : (i c x vfrom vto : ℕ) → Keeps used h f (stores (Done used) h (leaf_entered i c x vfrom vto f))
+  leaf_keeps : (i c x vfrom vto : ℕ) → Keeps used h f (stores (Some used) h (leaf_entered i c x vfrom vto f))
   leaf_keeps i c x vfrom vto = pick (eqb c x)
     where
-      pick : (b : Bool) → Keeps used h f (stores (Done used) h (cond b (entry i 0 vfrom vto f) f))
+      pick : (b : Bool) → Keeps used h f (stores (Some used) h (cond b (entry i 0 vfrom vto f) f))
       pick true = record { same = below_self; size = refl; entries = entry_length i 0 vfrom vto f; grown = λ k e. let z : used ≡ k = cc in omega arith }
       pick false = keeps_done
 
@@ -72,7 +71,7 @@ module _ (used : ℕ) (h f : List ℕ) where
   unfolding contracted_entry
   entry_keeps i x vfrom vto = pick (eqb (entry_known f i % 2) 1) (eqb (entry_to f i - entry_from f i) 1)
     where
-      pick : (a b : Bool) → Keeps used h f (cond a (stores (Done used) h f) (cond b (stores (Done used) h (leaf_entered i (get_or h (entry_from f i) 0) x vfrom vto f)) (entered_replaced i (vto - vfrom) used f (replaced (entry_from f i) (entry_to f i) x vfrom vto used h))))
+      pick : (a b : Bool) → Keeps used h f (cond a (stores (Some used) h f) (cond b (stores (Some used) h (leaf_entered i (get_or h (entry_from f i) 0) x vfrom vto f)) (entered_replaced i (vto - vfrom) used f (replaced (entry_from f i) (entry_to f i) x vfrom vto used h))))
       pick true b = keeps_done
       pick false true = leaf_keeps i (get_or h (entry_from f i) 0) x vfrom vto
       pick false false = replaced_keeps i (vto - vfrom) (entry_from f i) (entry_to f i) x vfrom vto
@@ -86,8 +85,8 @@ contract_keeps (suc left) i x vfrom vto used h f = rest (contracted_entry i x vf
         Keeps used h f (onward_from (contracted_from left (i + 1) x vfrom vto) w)
     rest w a again = pick w.answer refl
       where
-        pick : (r : Filled) → w.answer ≡ r → Keeps used h f (onward (contracted_from left (i + 1) x vfrom vto) r w.heap w.frame)
-        pick (Done k) e =
+        pick : (r : Option ℕ) → w.answer ≡ r → Keeps used h f (onward (contracted_from left (i + 1) x vfrom vto) r w.heap w.frame)
+        pick (Some k) e =
             let b = again k w.heap w.frame in
             let l = a.grown k e in
             record {
@@ -96,4 +95,4 @@ contract_keeps (suc left) i x vfrom vto used h f = rest (contracted_entry i x vf
               entries = b.entries ∙ a.entries;
               grown = λ j q. let m = b.grown j q in omega arith;
             }
-        pick Over e = record { same = a.same; size = a.size; entries = a.entries; grown = λ k q. let z : ◌≡◌ {A = ℕ} 0 1 = cc in absurd (omega arith) }
+        pick None e = record { same = a.same; size = a.size; entries = a.entries; grown = λ k q. let z : ◌≡◌ {A = ℕ} 0 1 = cc in absurd (omega arith) }

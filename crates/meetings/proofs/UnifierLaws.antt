@@ -7,6 +7,8 @@ use mathlib.Core.Logic.{◌↔◌}
 use mathlib.Core.Option.{Option, none, some}
 use native.Mathlib.Omega.{arith}
 use lib.ListN.{length, get_or}
+use Rattle.std.specs.Prelude.{Ok, Err}
+use Rattle.restrictions.specs.declared.failure.Failure.TheVariants.{Contradiction, Over}
 use Rattle.expressions.specs.Expression.{AtomicExp, Exp, atm}
 use Rattle.expressions.specs.Substitution.{subst_e, subst_a}
 use Rattle.expressions.specs.Restriction.{Restriction, simplify, apply_non_equality, subst_restriction}
@@ -30,7 +32,6 @@ use Rattle.meetings.specs.Twins.Binding.{StepLeft, bound_from, variable_bound}
 use Rattle.meetings.specs.Twins.Unifying.{disagreement_in, unified_by, unify_stepped, Roomed, room_made, unify_turned, MetLeft, met_left, on_step_from, unified_many, unified}
 use Rattle.meetings.specs.declared.difference.Disagreement.{Disagreement}
 use Rattle.meetings.specs.declared.class.Class.{Class}
-use Rattle.meetings.specs.declared.class.Met.TheVariants.{Common, Apart, Over}
 use Rattle.meetings.proofs.DifferenceLaws.{Coded, same, apart, binds_e, binds_a, leftmost_means}
 use Rattle.meetings.proofs.KeepLaws.{below_then}
 use Rattle.meetings.proofs.ClassLaws.{over, MeetingHeld, reached, few, output_at_lem, wanted_at, wanted_holds, output_holds, class_over}
@@ -38,9 +39,9 @@ use Rattle.meetings.proofs.BindingLaws.{Kept, Roomy, Stepped, entries_stepped, R
 
 -- The answer: the class that is left stands in the entries and q; or nothing is left; or it is over.
 abbrev pub Answered : Intersected → MetLeft → Type 0
-Answered (common Q) w = (c : Class) × (w.met ≡ Common c) × MeetingHeld (reached Q) w.heap w.frame w.q c × (c.used ≤ 61439)
-Answered disjoint w = w.met ≡ Apart
-Answered too_large w = w.met ≡ Over
+Answered (common Q) w = (c : Class) × (w.met ≡ Ok c) × MeetingHeld (reached Q) w.heap w.frame w.q c × (c.used ≤ 61439)
+Answered disjoint w = w.met ≡ Err Contradiction
+Answered too_large w = w.met ≡ Err Over
 
 -- .. and below `floor` the heap is as it was
 pub record Meets (floor : ℕ) (h : List ℕ) (r : Intersected) (w : MetLeft) : Type 0 where
@@ -163,31 +164,31 @@ unify_means P h f q c simple m r = rw (class_over m) (pick (over P) refl)
         let b : min (output_entry c) 4119 ≡ length P.con.io.ins + 1 = omega (arith, output_at_lem m, few m) in
         rw (a, b) (omega (arith, holds_nodes (wanted_holds m), holds_nodes (output_holds m)))
 
-    pick : (t : Bool) → over P ≡ t → Meets c.floor h (unless_over (unify over (bindings_enough P.con)) P t) (cond t (met_left Over h f q) (unified_many (bindings_in c f) c h f q))
+    pick : (t : Bool) → over P ≡ t → Meets c.floor h (unless_over (unify over (bindings_enough P.con)) P t) (cond t (met_left (Err Over) h f q) (unified_many (bindings_in c f) c h f q))
     pick true e = record { answered = refl; kept = kept_self m }
     pick false e = rw fuel (many_means (bindings_enough P.con) P h f q c simple m r e)
 
 -- .. and back: which answer says what
 module _ (w : MetLeft) where
-  pub answered_common : (r : Intersected) → Answered r w → (c : Class) → w.met ≡ Common c → (Q : IOClass) × (r ≡ common Q) × MeetingHeld (reached Q) w.heap w.frame w.q c × (c.used ≤ 61439)
+  pub answered_common : (r : Intersected) → Answered r w → (c : Class) → w.met ≡ Ok c → (Q : IOClass) × (r ≡ common Q) × MeetingHeld (reached Q) w.heap w.frame w.q c × (c.used ≤ 61439)
   answered_common (common Q) a c e =
       let d : a.0 ≡ c = cc in
       (Q, refl, subst (λ (k : Class). MeetingHeld (reached Q) w.heap w.frame w.q k) d a.2, subst (λ (k : Class). k.used ≤ 61439) d a.3)
   answered_common disjoint a c e = let z : ◌≡◌ {A = ℕ} 0 1 = cc in absurd (omega arith)
   answered_common too_large a c e = let z : ◌≡◌ {A = ℕ} 0 1 = cc in absurd (omega arith)
 
-  pub answered_apart : (r : Intersected) → Answered r w → (w.met ≡ Apart) ↔ (r ≡ disjoint)
+  pub answered_apart : (r : Intersected) → Answered r w → (w.met ≡ Err Contradiction) ↔ (r ≡ disjoint)
   answered_apart (common Q) a = ((λ e. let z : ◌≡◌ {A = ℕ} 0 1 = apart_common a.0 (inv e ∙ a.1) in absurd (omega arith)), λ e. cc)
     where
-      apart_common : (c : Class) → Apart ≡ Common c → ◌≡◌ {A = ℕ} 0 1
+      apart_common : (c : Class) → Err Contradiction ≡ Ok c → ◌≡◌ {A = ℕ} 0 1
       apart_common c e = cc
   answered_apart disjoint a = ((λ e. refl), λ e. a)
   answered_apart too_large a = ((λ e. cc), λ e. cc)
 
-  pub answered_over : (r : Intersected) → Answered r w → (w.met ≡ Over) ↔ (r ≡ too_large)
+  pub answered_over : (r : Intersected) → Answered r w → (w.met ≡ Err Over) ↔ (r ≡ too_large)
   answered_over (common Q) a = ((λ e. let z : ◌≡◌ {A = ℕ} 0 1 = over_common a.0 (inv e ∙ a.1) in absurd (omega arith)), λ e. cc)
     where
-      over_common : (c : Class) → Over ≡ Common c → ◌≡◌ {A = ℕ} 0 1
+      over_common : (c : Class) → Err Over ≡ Ok c → ◌≡◌ {A = ℕ} 0 1
       over_common c e = cc
   answered_over disjoint a = ((λ e. cc), λ e. cc)
   answered_over too_large a = ((λ e. refl), λ e. a)

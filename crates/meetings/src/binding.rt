@@ -3,11 +3,12 @@ ghost use Rattle.std.specs.Prelude.{◌≡◌};
 ghost use Rattle.meetings.specs.Twins.Binding.{bound, step_left, entries_bound, variable_bound};
 
 use crate::class;
-use crate::class::{Class, Met, Step};
+use crate::class::{Class, Step};
 use cells::cell;
 use heap::apply::bind_restriction;
 use heap::contract;
-use restrictions::restriction::Restricted;
+use restrictions::failure::Failure;
+use std::ops::ControlFlow;
 
 // The variable bound to the tree of a range in the inputs, w and u.
 fn bind_entries(
@@ -38,18 +39,8 @@ pub(crate) fn bind(
     ensures { step_left result heap.new frame.new q.new ≡ variable_bound c var from to heap.old frame.old q.old }
 {
     let code = cell::cell(heap, from);
-    let r = bind_restriction(q, c.neqs, var, code);
-    match r {
-        Restricted::Kept(n) => {
-            let kept = Class {
-                entries: c.entries,
-                used: c.used,
-                neqs: n,
-                floor: c.floor,
-            };
-            bind_entries(heap, frame, kept, var, from, to)
-        }
-        Restricted::Contradiction => Step::End(Met::Apart),
-        Restricted::Full => Step::End(Met::Apart),
+    match bind_restriction(q, c.neqs, var, code) {
+        Ok(neqs) => bind_entries(heap, frame, Class { neqs, ..c }, var, from, to),
+        Err(_) => ControlFlow::Break(Err(Failure::Contradiction)),
     }
 }

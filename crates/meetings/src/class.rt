@@ -3,9 +3,9 @@ ghost use Rattle.std.specs.Prelude.{◌≡◌, min, ◌-◌, ◌≤◌};
 ghost use Rattle.heap.specs.Twins.Entries.{entry_from, entry_to};
 ghost use Rattle.meetings.specs.Twins.Classes.{place_in, class_nodes, sized_by, grown_by, bindings_in};
 
-use cells::cell;
 use heap::entry;
-use sets::fill::Filled;
+use restrictions::failure::Failure;
+use std::ops::ControlFlow;
 
 // "over 4,096 nodes"
 pub const NODES: usize = 4096;
@@ -19,23 +19,14 @@ pub struct Class {
     pub floor: usize,
 }
 
-// Common: what is left. Apart: nothing. Over: 21.
-#[derive(Drop)]
-pub enum Met {
-    Common(Class),
-    Apart,
-    Over,
-}
+// What is left; where there is a contradiction, nothing is. Over: 21.
+pub type Met = Result<Class, Failure>;
 
 // One binding on: the class now, or the end.
-#[derive(Drop)]
-pub enum Step {
-    On(Class),
-    End(Met),
-}
+pub type Step = ControlFlow<Met, Class>;
 
 // Where an entry's value stands.
-#[derive(Drop)]
+#[derive(Clone, Copy)]
 pub(crate) struct Place {
     pub from: usize,
     pub to: usize,
@@ -45,35 +36,35 @@ pub(crate) struct Place {
 pub(crate) fn entry_at(frame: &[u16; 12360], i: usize) -> Place
     ensures { result ≡ place_in i frame.now }
 {
-    let j = cell::least(i, 4119);
-    let from = cell::wide(frame[3 * j + 1]);
-    let to = cell::wide(frame[3 * j + 2]);
-    Place { from: from, to: to }
+    let j = i.min(4119);
+    Place {
+        from: frame[3 * j + 1] as usize,
+        to: frame[3 * j + 2] as usize,
+    }
 }
 
 // The nodes of the entry i.
 pub(crate) fn entry_size(frame: &[u16; 12360], i: usize) -> usize
     ensures { (result ≡ entry_to frame.now (min i 4119) - entry_from frame.now (min i 4119)) × (result ≤ 65535) }
 {
-    let j = cell::least(i, 4119);
-    let from = cell::wide(frame[3 * j + 1]);
-    let to = cell::wide(frame[3 * j + 2]);
-    to - cell::least(from, to)
+    let j = i.min(4119);
+    let from = frame[3 * j + 1] as usize;
+    let to = frame[3 * j + 2] as usize;
+    to.saturating_sub(from)
 }
 
 // The entry of u.
 pub(crate) fn output_entry(c: Class) -> usize
     ensures { result ≡ min c.entries 4119 }
 {
-    cell::least(c.entries, 4119)
+    c.entries.min(4119)
 }
 
 // The entry of w, before it.
 pub(crate) fn wanted_entry(c: Class) -> usize
     ensures { result ≡ min c.entries 4119 - 1 }
 {
-    let n = cell::least(c.entries, 4119);
-    n - cell::least(n, 1)
+    output_entry(c).saturating_sub(1)
 }
 
 // "inputs, wanted output and environment values .., plus 2 for each non-equality. In the intersection the output u stands for the environment." A count
@@ -82,7 +73,7 @@ pub(crate) fn class_nodes(frame: &[u16; 12360], c: Class) -> usize
     ensures { result ≡ class_nodes c frame.now }
 {
     let n = entry::nodes(frame, output_entry(c) + 1);
-    cell::least(n, 4097) + 2 * cell::least(c.neqs, 4097)
+    n.min(4097) + 2 * c.neqs.min(4097)
 }
 
 // "21 .. after a binding"
@@ -90,26 +81,18 @@ pub(crate) fn size_test(frame: &[u16; 12360], c: Class) -> Step
     ensures { result ≡ sized_by c frame.now }
 {
     if NODES < class_nodes(frame, c) {
-        return Step::End(Met::Over);
+        return ControlFlow::Break(Err(Failure::Over));
     }
-    Step::On(c)
+    ControlFlow::Continue(c)
 }
 
 // What contracting the entries left: where the heap has no room for them, they are over 21 too.
-pub(crate) fn grown(frame: &[u16; 12360], c: Class, w: Filled) -> Step
+pub(crate) fn grown(frame: &[u16; 12360], c: Class, w: Option<usize>) -> Step
     ensures { result ≡ grown_by c w frame.now }
 {
     match w {
-        Filled::Done(k) => size_test(
-            frame,
-            Class {
-                entries: c.entries,
-                used: k,
-                neqs: c.neqs,
-                floor: c.floor,
-            },
-        ),
-        Filled::Over => Step::End(Met::Over),
+        Some(used) => size_test(frame, Class { used, ..c }),
+        None => ControlFlow::Break(Err(Failure::Over)),
     }
 }
 

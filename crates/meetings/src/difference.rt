@@ -2,11 +2,10 @@
 ghost use Rattle.std.specs.Prelude.{◌≡◌, ◌<◌, ◌≤◌};
 ghost use Rattle.meetings.specs.Twins.Differing.{first_difference, unless_standing, atomic_judged, judged, leftmost_in};
 
-use cells::cell;
 use sets::tree;
 
 // What removes it: nothing is to be removed, nothing can; a variable bound to the tree of a range, of which a leaf is one of one cell.
-#[derive(Drop)]
+#[derive(Clone, Copy)]
 pub enum Disagreement {
     Same,
     Apart,
@@ -14,7 +13,7 @@ pub enum Disagreement {
 }
 
 // The place of a difference in both.
-#[derive(Drop)]
+#[derive(Clone, Copy)]
 pub struct Difference {
     pub wanted: usize,
     pub output: usize,
@@ -31,27 +30,18 @@ fn first_difference(
     requires { (wto ≤ 65535) × (uto ≤ 65535) }
     ensures { result ≡ first_difference wfrom wto ufrom uto heap.now }
 {
-    let mut p = wfrom;
-    let mut k = ufrom;
-    while p < wto {
-        if uto <= k {
+    let most = wto.saturating_sub(wfrom).min(uto.saturating_sub(ufrom));
+    for n in 0..most {
+        if heap[wfrom + n] != heap[ufrom + n] {
             return Difference {
-                wanted: p,
-                output: k,
+                wanted: wfrom + n,
+                output: ufrom + n,
             };
         }
-        if heap[p] != heap[k] {
-            return Difference {
-                wanted: p,
-                output: k,
-            };
-        }
-        p += 1;
-        k += 1;
     }
     Difference {
-        wanted: p,
-        output: k,
+        wanted: wfrom + most,
+        output: ufrom + most,
     }
 }
 
@@ -59,15 +49,11 @@ fn first_difference(
 fn bind_unless_occurs(heap: &[u16; 65535], var: u16, from: usize, to: usize) -> Disagreement
     ensures { result ≡ unless_standing var from to heap.now }
 {
-    let end = cell::least(tree::tree_end(heap, from), to);
+    let end = tree::tree_end(heap, from).min(to);
     if tree::stands_in(heap, from, end, var) {
         return Disagreement::Apart;
     }
-    Disagreement::Bind {
-        var: var,
-        from: from,
-        to: end,
-    }
+    Disagreement::Bind { var, from, to: end }
 }
 
 // "else w a `?a` and u atomic, bind w; else u a `?a` and w an atom, bind u; .. the rest fail", where neither is a `?e`.
@@ -83,10 +69,8 @@ fn judge_atomic(heap: &[u16; 65535], p: usize, wto: usize, k: usize, uto: usize)
         }
         return Disagreement::Apart;
     }
-    if u % 4 == 3 {
-        if w % 4 == 1 {
-            return bind_unless_occurs(heap, u, p, wto);
-        }
+    if u % 4 == 3 && w % 4 == 1 {
+        return bind_unless_occurs(heap, u, p, wto);
     }
     Disagreement::Apart
 }
@@ -117,8 +101,8 @@ pub fn leftmost(
 ) -> Disagreement
     ensures { result ≡ leftmost_in wfrom wto ufrom uto heap.now }
 {
-    let wend = cell::least(wto, 65535);
-    let uend = cell::least(uto, 65535);
+    let wend = wto.min(65535);
+    let uend = uto.min(65535);
     let d = first_difference(heap, wfrom, wend, ufrom, uend);
     let p = d.wanted;
     let k = d.output;

@@ -25,7 +25,7 @@ pub(crate) struct Header {
 fn put_header(h: Header, answer: &mut [u16], top: usize) -> usize
     ensures { line_answer result answer.new ≡ header_put h top answer.old }
 {
-    let at = cell::least(top, LAST);
+    let at = top.min(LAST);
     cell::put(answer, at, cell::narrow(h.steps));
     cell::put(answer, at + 1, cell::narrow(h.ins));
     cell::put(answer, at + 2, cell::narrow(h.out));
@@ -43,7 +43,7 @@ fn put_entry(
 ) -> usize
     ensures { line_answer result answer.new ≡ entry_put i heap.now frame.now top answer.old }
 {
-    let at = cell::least(top, LAST);
+    let at = top.min(LAST);
     let p = class::entry_at(frame, i);
     let n = class::entry_size(frame, i);
     tree::copy(heap, p.from, n, answer, at);
@@ -61,10 +61,8 @@ fn put_entries(
     ensures { line_answer result answer.new ≡ entries_put n 0 heap.now frame.now top answer.old }
 {
     let mut at = top;
-    let mut i: usize = 0;
-    while i < n {
+    for i in 0..n {
         at = put_entry(heap, frame, i, answer, at);
-        i += 1;
     }
     at
 }
@@ -85,17 +83,14 @@ pub fn put_line(
     let ins = entry::nodes(frame, w);
     let out = class::entry_size(frame, w);
     let h = Header {
-        steps: steps,
-        ins: ins,
-        out: out,
+        steps,
+        ins,
+        out,
         neqs: c.neqs,
     };
     let at = put_header(h, answer, top);
-    let end = cell::least(
-        put_entries(heap, frame, class::output_entry(c), answer, at),
-        LAST,
-    );
-    let sides = 2 * cell::least(c.neqs, 2048);
+    let end = put_entries(heap, frame, class::output_entry(c), answer, at).min(LAST);
+    let sides = 2 * c.neqs.min(2048);
     tree::copy(q, 0, sides, answer, end);
     end + sides
 }

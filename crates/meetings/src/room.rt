@@ -18,10 +18,5 @@ pub(crate) fn make_room(heap: &mut [u16; 65535], frame: &mut [u16; 12360], c: Cl
     }
     let n = class::output_entry(c);
     let used = compact::compact(heap, frame, n + 1, c.floor, c.used);
-    Class {
-        entries: c.entries,
-        used: used,
-        neqs: c.neqs,
-        floor: c.floor,
-    }
+    Class { used, ..c }
 }

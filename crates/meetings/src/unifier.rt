@@ -6,6 +6,8 @@ ghost use Rattle.meetings.specs.Twins.Unifying.{disagreement_in, unify_stepped, 
 use crate::class::{Class, Met, Step};
 use crate::difference::Disagreement;
 use crate::{binding, class, difference, room};
+use restrictions::failure::Failure;
+use std::ops::ControlFlow;
 
 // The leftmost disagreement of the entries w and u.
 fn disagreement(heap: &[u16; 65535], frame: &[u16; 12360], c: Class) -> Disagreement
@@ -25,10 +27,9 @@ fn unify_step(
 ) -> Step
     ensures { step_left result heap.new frame.new q.new ≡ unify_stepped c heap.old frame.old q.old }
 {
-    let d = disagreement(heap, frame, c);
-    match d {
-        Disagreement::Same => Step::End(Met::Common(c)),
-        Disagreement::Apart => Step::End(Met::Apart),
+    match disagreement(heap, frame, c) {
+        Disagreement::Same => ControlFlow::Break(Ok(c)),
+        Disagreement::Apart => ControlFlow::Break(Err(Failure::Contradiction)),
         Disagreement::Bind { var, from, to } => binding::bind(heap, frame, q, c, var, from, to),
     }
 }
@@ -57,21 +58,14 @@ pub fn unify(
     ensures { met_left result heap.new frame.new q.new ≡ unified class heap.old frame.old q.old }
 {
     if class::NODES < class::class_nodes(frame, class) {
-        return Met::Over;
+        return Err(Failure::Over);
     }
-    let mut left = class::bindings_enough(frame, class);
     let mut c = class;
-    while 0 < left {
-        let s = unify_turn(heap, frame, q, c);
-        match s {
-            Step::End(m) => {
-                return m;
-            }
-            Step::On(next) => {
-                c = next;
-                left -= 1;
-            }
+    for _ in 0..class::bindings_enough(frame, class) {
+        match unify_turn(heap, frame, q, c) {
+            ControlFlow::Break(m) => return m,
+            ControlFlow::Continue(next) => c = next,
         }
     }
-    Met::Apart
+    Err(Failure::Contradiction)
 }

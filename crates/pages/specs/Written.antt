@@ -1,8 +1,8 @@
 -- What is written of two texts: the answer of an entry to storage that is nought, and how many bytes its text has (01, "Printing, and cases"). They stay shut, so
 -- that a program that only writes does not open them.
 use Rattle.std.specs.Prelude.{ℕ, Bool, List, length, replicate}
-use Rattle.answers.specs.declared.list.Answer.{Answer as Listed}
-use Rattle.run_answers.specs.declared.run.Answer.{Answer as Ran}
+use Rattle.answers.specs.ListNumbers.{Answer as Listed}
+use Rattle.run_answers.specs.RunNumbers.{Answer as Ran}
 use Rattle.resolve.specs.ListAnswer.{list_left}
 use Rattle.resolve.specs.RunAnswer.{run_left}
 use Rattle.print.specs.Twins.ListedText.{listed_with}

@@ -1,5 +1,5 @@
 // What the entries answer, written to standard output page by page. No contract can say what is written; these say how much was taken.
-ghost use Rattle.std.specs.Prelude.{true, ◌≡◌, ◌<◌, ◌≤◌, min, length, take, false, IfOk, IsSome};
+ghost use Rattle.std.specs.Prelude.{◌≡◌, ◌<◌, ◌≤◌, min, length, take, IfOk, IsOk, IsErr};
 ghost use Rattle.std.specs.Io.{WritesAtMost};
 ghost use Rattle.std.specs.Io.KnownBytes.{Appends, WriteAppends};
 ghost use Rattle.window.specs.Windows.{windowed};
@@ -23,33 +23,23 @@ const TRIES: usize = 10000;
 
 const PAUSE: u64 = 1;
 
-// How many bytes were taken, and whether that is the whole text. Where it is not, the error says why.
+// How many bytes were taken, and how that ended: `Ok` is the whole text, and where it is not whole the error says why.
 #[derive(Drop)]
 pub struct Written {
     pub bytes: usize,
-    pub whole: bool,
-    pub error: Option<io::Error>,
+    pub ended: io::Result<()>,
 }
 
-// What was written, and what it is the text of.
+// What was written, and the answer that it is the text of.
 #[derive(Drop)]
-pub struct ListWritten {
+pub struct Printed<A> {
     pub written: Written,
-    pub answer: answers::list::Answer,
-}
-
-#[derive(Drop)]
-pub struct RunWritten {
-    pub written: Written,
-    pub answer: run_answers::run::Answer,
+    pub answer: A,
 }
 
 // Whether a write that took nothing may take something later: a signal came between, or the reader of a pipe that does not wait is behind.
 fn may_try_again(error: &io::Error) -> bool {
-    match error.kind() {
-        ErrorKind::WouldBlock | ErrorKind::Interrupted => true,
-        _ => false,
-    }
+    matches!(error.kind(), ErrorKind::WouldBlock | ErrorKind::Interrupted)
 }
 
 // One write that takes something, behind as many that take nothing as are waited for.
@@ -76,7 +66,7 @@ fn write_some<W: Write>(clock: &impl Clock, out: &mut W, bytes: &[u8]) -> io::Re
 // Writes the bytes, on after each part that is taken: how many were taken, all of them where nothing failed.
 fn write_bytes<W: Write>(clock: &impl Clock, out: &mut W, bytes: &[u8]) -> Written
     ensures bound { result.bytes ≤ length bytes.now }
-    ensures why { result.bytes < length bytes.now → IsSome result.error }
+    ensures why { result.bytes < length bytes.now → IsErr result.ended }
     ensures taken { Appends (W.contents out.old) (W.contents out.new) (take result.bytes bytes.now) }
 {
     let mut done: usize = 0;
@@ -86,23 +76,21 @@ fn write_bytes<W: Write>(clock: &impl Clock, out: &mut W, bytes: &[u8]) -> Writt
             Err(error) => {
                 return Written {
                     bytes: done,
-                    whole: false,
-                    error: Some(error),
+                    ended: Err(error),
                 };
             }
         }
     }
     Written {
         bytes: done,
-        whole: true,
-        error: None,
+        ended: Ok(()),
     }
 }
 
 // The same of the first n bytes of a page.
 fn write_page<W: Write>(clock: &impl Clock, out: &mut W, page: &[u8; 65536], n: usize) -> Written
     ensures bound { result.bytes ≤ n }
-    ensures why { n ≤ 65536 → result.bytes < n → IsSome result.error }
+    ensures why { n ≤ 65536 → result.bytes < n → IsErr result.ended }
     ensures taken { Appends (W.contents out.old) (W.contents out.new) (take result.bytes page.now) }
 {
     write_bytes(clock, out, part(page, 0, n))
@@ -123,8 +111,8 @@ fn write_list<W: Write>(
     page: &mut [u8; 65536],
 ) -> Written
     requires { first ≡ min 65536 (length (listed_with samples program.now job.now cells.now answer)) }
-    ensures whole { result.whole ≡ true → result.bytes ≡ length (listed_with samples program.now job.now cells.now answer) }
-    ensures why { result.whole ≡ false → IsSome result.error }
+    ensures whole { IsOk result.ended → result.bytes ≡ length (listed_with samples program.now job.now cells.now answer) }
+    ensures why { result.bytes < length (listed_with samples program.now job.now cells.now answer) → IsErr result.ended }
     ensures taken { let text = listed_with samples program.now job.now cells.now answer in page.old ≡ windowed 65536 0 text → Appends (W.contents out.old) (W.contents out.new) (take result.bytes text) }
 {
     let mut n = first;
@@ -132,26 +120,17 @@ fn write_list<W: Write>(
     for k in 0..128u32 {
         let taken = write_page(clock, out, page, n);
         bytes += taken.bytes;
-        if taken.bytes < n {
+        if taken.bytes < n || n < 65536 {
             return Written {
-                bytes: bytes,
-                whole: false,
-                error: taken.error,
-            };
-        }
-        if n < 65536 {
-            return Written {
-                bytes: bytes,
-                whole: true,
-                error: None,
+                bytes,
+                ended: taken.ended,
             };
         }
         n = list_page(samples, program, job, answer, cells, k + 1, page);
     }
     Written {
-        bytes: bytes,
-        whole: false,
-        error: Some(io::Error::from(ErrorKind::FileTooLarge)),
+        bytes,
+        ended: Err(io::Error::from(ErrorKind::FileTooLarge)),
     }
 }
 
@@ -164,31 +143,19 @@ fn write_run<W: Write>(
     answer: run_answers::run::Answer,
     cells: &[u16],
 ) -> Written
-    ensures whole { result.whole ≡ true → result.bytes ≡ length (ran_text program.now job.now cells.now answer) }
-    ensures why { result.whole ≡ false → IsSome result.error }
+    ensures whole { IsOk result.ended → result.bytes ≡ length (ran_text program.now job.now cells.now answer) }
+    ensures why { result.bytes < length (ran_text program.now job.now cells.now answer) → IsErr result.ended }
     ensures taken { Appends (W.contents out.old) (W.contents out.new) (take result.bytes (ran_text program.now job.now cells.now answer)) }
 {
     let mut page = [0u8; 65536];
     let n = run_page(program, job, answer, cells, 0, &mut page);
     let taken = write_page(clock, out, &page, n);
-    if taken.bytes < n {
-        return Written {
-            bytes: taken.bytes,
-            whole: false,
-            error: taken.error,
-        };
-    }
-    if n < 65536 {
-        return Written {
-            bytes: taken.bytes,
-            whole: true,
-            error: None,
-        };
+    if taken.bytes < n || n < 65536 {
+        return taken;
     }
     Written {
         bytes: taken.bytes,
-        whole: false,
-        error: Some(io::Error::from(ErrorKind::FileTooLarge)),
+        ended: Err(io::Error::from(ErrorKind::FileTooLarge)),
     }
 }
 
@@ -204,9 +171,10 @@ fn first_page(
     ensures { let w = list_left program.now job.now work.old answer.old in (result.answer ≡ w.answer) × (answer.new ≡ w.cells) × (result.bytes ≡ min 65536 (length (listed_with samples program.now job.now w.cells w.answer))) × (page.new ≡ windowed 65536 0 (listed_with samples program.now job.now w.cells w.answer)) }
 {
     if samples {
-        return list_first_sampled(program, job, work, answer, page);
+        list_first_sampled(program, job, work, answer, page)
+    } else {
+        list_first(program, job, work, answer, page)
     }
-    list_first(program, job, work, answer, page)
 }
 
 // Writes the listing of the two texts, with samples where they are called for (02, request 2).
@@ -216,33 +184,21 @@ pub fn list_texts<W: Write>(
     samples: bool,
     program: &[u8],
     job: &[u8],
-) -> ListWritten
-    ensures whole { (result.answer ≡ listed program.now job.now) × (result.written.whole ≡ true → result.written.bytes ≡ listed_bytes samples program.now job.now) }
-    ensures why { result.written.whole ≡ false → IsSome result.written.error }
+) -> Printed<answers::list::Answer>
+    ensures whole { (result.answer ≡ listed program.now job.now) × (IsOk result.written.ended → result.written.bytes ≡ listed_bytes samples program.now job.now) }
+    ensures why { result.written.bytes < listed_bytes samples program.now job.now → IsErr result.written.ended }
     ensures taken { Appends (W.contents out.old) (W.contents out.new) (take result.written.bytes (written_listing samples program.now job.now)) }
 {
-    let mut work_space = [0u16; list::WORK];
-    let mut answer_space = [0u16; list::ANSWER];
-    let work: &mut [u16] = &mut work_space;
-    let answer: &mut [u16] = &mut answer_space;
+    let mut work = [0u16; list::WORK];
+    let mut cells = [0u16; list::ANSWER];
     let mut page = [0u8; 65536];
-    let listed = first_page(samples, program, job, work, answer, &mut page);
-    let said = listed.answer;
-    let written = write_list(
-        clock,
-        out,
-        samples,
-        program,
-        job,
-        said,
-        answer,
-        listed.bytes,
-        &mut page,
+    let Listed { answer, bytes } = first_page(
+        samples, program, job, &mut work, &mut cells, &mut page,
     );
-    ListWritten {
-        written: written,
-        answer: said,
-    }
+    let written = write_list(
+        clock, out, samples, program, job, answer, &cells, bytes, &mut page,
+    );
+    Printed { written, answer }
 }
 
 // Writes the line of the program's run on the job's inputs.
@@ -251,19 +207,14 @@ pub fn run_texts<W: Write>(
     out: &mut W,
     program: &[u8],
     job: &[u8],
-) -> RunWritten
-    ensures whole { (result.answer ≡ ran program.now job.now) × (result.written.whole ≡ true → result.written.bytes ≡ ran_bytes program.now job.now) }
-    ensures why { result.written.whole ≡ false → IsSome result.written.error }
+) -> Printed<run_answers::run::Answer>
+    ensures whole { (result.answer ≡ ran program.now job.now) × (IsOk result.written.ended → result.written.bytes ≡ ran_bytes program.now job.now) }
+    ensures why { result.written.bytes < ran_bytes program.now job.now → IsErr result.written.ended }
     ensures taken { Appends (W.contents out.old) (W.contents out.new) (take result.written.bytes (written_run program.now job.now)) }
 {
-    let mut work_space = [0u16; run::WORK];
-    let mut answer_space = [0u16; run::ANSWER];
-    let work: &mut [u16] = &mut work_space;
-    let answer: &mut [u16] = &mut answer_space;
-    let said = run::run(program, job, work, answer);
-    let written = write_run(clock, out, program, job, said, answer);
-    RunWritten {
-        written: written,
-        answer: said,
-    }
+    let mut work = [0u16; run::WORK];
+    let mut cells = [0u16; run::ANSWER];
+    let answer = run::run(program, job, &mut work, &mut cells);
+    let written = write_run(clock, out, program, job, answer, &cells);
+    Printed { written, answer }
 }

@@ -23,9 +23,10 @@ pub fn list_page(
 {
     let from = (k as usize) * 65536;
     if samples {
-        return print_sampled(program, job, answer, cells, from, page);
+        print_sampled(program, job, answer, cells, from, page)
+    } else {
+        print_list(program, job, answer, cells, from, page)
     }
-    print_list(program, job, answer, cells, from, page)
 }
 
 // The same of a run. `cells` is the answer storage that `run` left.

@@ -7,6 +7,8 @@ use mathlib.Core.Option.{Option}
 use mathlib.Core.Logic.{◌⊎◌, inl, inr}
 use native.Mathlib.Omega.{arith}
 use lib.ListN.{length}
+use Rattle.std.specs.Prelude.{Err}
+use Rattle.restrictions.specs.declared.failure.Failure.TheVariants.{Over}
 use Rattle.expressions.specs.Expression.{AtomicExp, Exp, atm, evar, pair}
 use Rattle.expressions.specs.Substitution.{apply}
 use Rattle.expressions.specs.Contraction.{CRPair}
@@ -17,7 +19,6 @@ use Rattle.semantics.specs.Trace.{Successors, branches, trace_pair, successors_o
 use Rattle.semantics.proofs.Scopes.{Covers, WellScoped, scoped_consp}
 use Rattle.heap.specs.Twins.Moving.{Left}
 use Rattle.heap.specs.declared.configuration.Configuration.{Configuration as InCells}
-use Rattle.heap.specs.declared.configuration.Moved.TheVariants.{Over}
 use Rattle.runs.proofs.RunLaws.{Below}
 use Rattle.linking.specs.Twins.Linked.{TermLinked}
 use Rattle.constants.proofs.ConstantLaws.{Constants}
@@ -49,7 +50,7 @@ leads_from {p} {bodies} {code} {g} {h} {used} {o} {w} x b = record { to = λ K e
     arrives : (K : Configuration) → Arrives p bodies code g used K w → Arrives p bodies code h used K w
     arrives K a = record { at = a.at; moved = a.moved; stands = a.stands; same = record { same = λ j l. a.same.same j l ∙ b.same j l }; grown = a.grown; most = a.most }
 
-    go : (K : Configuration) → ((w.answer ≡ Over) × (4097 < nodes_state K.cr)) ⊎ Arrives p bodies code g used K w → ((w.answer ≡ Over) × (4097 < nodes_state K.cr)) ⊎ Arrives p bodies code h used K w
+    go : (K : Configuration) → ((w.answer ≡ Err Over) × (4097 < nodes_state K.cr)) ⊎ Arrives p bodies code g used K w → ((w.answer ≡ Err Over) × (4097 < nodes_state K.cr)) ⊎ Arrives p bodies code h used K w
     go K (inl o) = inl o
     go K (inr a) = inr (arrives K a)
 

@@ -9,6 +9,7 @@ use lib.Dec.{eqb, ltb, leb}
 use lib.ListN.{length, get_or}
 use lib.Seq.{sets, length-sets}
 use borrow.Author.Tests.{ltb-true, le-ltb, eq-eqb, ne_eqb, eqb-false}
+use Rattle.std.specs.Prelude.{Option, Some, None}
 use Rattle.expressions.specs.Expression.{AtomicExp, sym, avar, Exp, atm, evar, pair, nodes}
 use Rattle.expressions.specs.Substitution.{apply}
 use Rattle.expressions.specs.Contraction.{CRPair}
@@ -17,8 +18,6 @@ use Rattle.semantics.specs.Configuration.{subst_of_env, state}
 use Rattle.sets.specs.Twins.Copying.{tree_end}
 use Rattle.sets.specs.Cells.{cells, evar_code, atomic_code}
 use Rattle.sets.specs.Twins.Fill.{FillAnswer, fill_answer}
-use Rattle.sets.specs.declared.fill.Filled.{Filled}
-use Rattle.sets.specs.declared.fill.Filled.TheVariants.{Done, Over as FilledOver}
 use Rattle.runs.specs.Twins.Runs.{written, run}
 use Rattle.heap.specs.declared.configuration.Configuration.{Configuration}
 use Rattle.runs.proofs.RunLaws.{Below, below_self, below_sets, run_cons}
@@ -48,7 +47,7 @@ use Rattle.pairs.proofs.NameLaws.{names_held, entries_are}
 record Grows (used : ℕ) (h : List ℕ) (w : FillAnswer) : Type 0 where
   same : Below used w.cells h
   size : length w.cells ≡ length h
-  behind : (m : ℕ) → w.answer ≡ Done m → used ≤ m
+  behind : (m : ℕ) → w.answer ≡ Some m → used ≤ m
 
 record Kept (used : ℕ) (h : List ℕ) (v : ValueLeft) : Type 0 where
   same : Below used v.heap h
@@ -58,11 +57,11 @@ written_grows : (used k n : ℕ) (w h : List ℕ) → used ≤ k → Grows used 
 unfolding written
 written_grows used k n w h l = go (leb (k + n) 65535)
   where
-    go : (b : Bool) → Grows used h (cond b (fill_answer (Done (k + n)) (sets h k w)) (fill_answer FilledOver h))
+    go : (b : Bool) → Grows used h (cond b (fill_answer (Some (k + n)) (sets h k w)) (fill_answer None h))
     go true = record { same = below_sets k w below_self l; size = length-sets h k w; behind = λ m e. let z : k + n ≡ m = cc in omega arith }
     go false = record { same = below_self; size = refl; behind = λ m e. let z : ◌≡◌ {A = ℕ} 0 1 = cc in absurd (omega arith) }
 
-stays_grows : (used k : ℕ) (h : List ℕ) → used ≤ k → Grows used h (fill_answer (Done k) h)
+stays_grows : (used k : ℕ) (h : List ℕ) → used ≤ k → Grows used h (fill_answer (Some k) h)
 stays_grows used k h l = record { same = below_self; size = refl; behind = λ m e. let z : k ≡ m = cc in omega arith }
 
 module _ (code f : List ℕ) (base : ℕ) where
@@ -70,7 +69,7 @@ module _ (code f : List ℕ) (base : ℕ) where
   unfolding token_written
   token_grows used j k h l = go (eqb (link_at code j).mark 1) (eqb (link_at code j).mark 2) (written_grows used k _ _ h l) (written_grows used k _ _ h l)
     where
-      go : (a b : Bool) → {u v : FillAnswer} → Grows used h u → Grows used h v → Grows used h (cond a u (cond b v (fill_answer (Done k) h)))
+      go : (a b : Bool) → {u v : FillAnswer} → Grows used h u → Grows used h v → Grows used h (cond a u (cond b v (fill_answer (Some k) h)))
       go true b x y = x
       go false true x y = y
       go false false x y = stays_grows used k h l
@@ -80,11 +79,11 @@ module _ (code f : List ℕ) (base : ℕ) where
   tokens_grow zero used j k h l = stays_grows used k h l
   tokens_grow (suc left) used j k h l = go (token_written code f base j k h).answer (token_written code f base j k h).cells (token_grows used j k h l) (λ m g i. tokens_grow left used (j + 1) m g i)
     where
-      go : (r : Filled) (g : List ℕ) → Grows used h (fill_answer r g) → ((m : ℕ) (u : List ℕ) → used ≤ m → Grows used u (tokens_written code f base left (j + 1) m u)) →
+      go : (r : Option ℕ) (g : List ℕ) → Grows used h (fill_answer r g) → ((m : ℕ) (u : List ℕ) → used ≤ m → Grows used u (tokens_written code f base left (j + 1) m u)) →
           Grows used h (onward_fill (λ m u. tokens_written code f base left (j + 1) m u) r g)
-      go (Done m) g x again =
+      go (Some m) g x again =
           let y = again m g (x.behind m refl) in record { same = record { same = λ i a. y.same.same i a ∙ x.same.same i a }; size = y.size ∙ x.size; behind = y.behind }
-      go FilledOver g x again = x
+      go None g x again = x
 
   made_grows : (used i past : ℕ) (h : List ℕ) → Kept used h (made_of code f base used i past h)
   unfolding made_of

@@ -6,6 +6,7 @@ use mathlib.Core.List.{List, [], ◌∷◌, ◌++◌, append_assoc}
 use native.Mathlib.Omega.{arith}
 use lib.ListN.{length, length-append}
 use borrow.Author.Tests.{lt-leb}
+use Rattle.std.specs.Prelude.{Some}
 use Rattle.expressions.specs.Expression.{AtomicExp, Exp, atm, nodes}
 use Rattle.expressions.specs.Contraction.{CRPair}
 use Rattle.language.specs.Program.{Param, pe, pa}
@@ -13,7 +14,6 @@ use Rattle.language.specs.WellFormed.{has_param}
 use Rattle.semantics.specs.Environment.{update, update_e, update_a}
 use Rattle.semantics.specs.Configuration.{ExpEnv, state, with_env, nodes_values}
 use Rattle.heap.specs.Twins.Entries.{entry, entry_known, entry_from, entry_to, pushed, PushAnswer}
-use Rattle.heap.specs.declared.entry.Pushed.TheVariants.{Done}
 use Rattle.heap.specs.declared.configuration.Configuration.{Configuration}
 use Rattle.runs.proofs.RunLaws.{below_self}
 use Rattle.heap.proofs.HeapLaws.{Holds, nodes_positive}
@@ -60,7 +60,7 @@ entries_to n c = record { inputs = c.inputs; outputs = c.outputs; entries = n; u
 
 -- what binding so many names leaves
 pub record Named (h q : List ℕ) (c : Configuration) (more : ℕ) (names : List Param) (P : CRPair state) (w : PushAnswer) : Type 0 where
-  pub done : w.answer ≡ Done (c.entries + more)
+  pub done : w.answer ≡ Some (c.entries + more)
   pub holds : HoldsPair h w.frame q (entries_to (c.entries + more) c) names P
 
 module _ {h f q : List ℕ} {c : Configuration} {names : List Param} {P : CRPair state} (x : HoldsPair h f q c names P) (room : c.entries < 4120) where

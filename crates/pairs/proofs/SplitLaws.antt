@@ -7,6 +7,8 @@ use mathlib.Core.Logic.{inl, inr}
 use native.Mathlib.Omega.{arith}
 use lib.ListN.{set}
 use borrow.Author.Tests.{le-ltb}
+use Rattle.std.specs.Prelude.{Some, None, Ok, Err}
+use Rattle.restrictions.specs.declared.failure.Failure.TheVariants.{Over}
 use Rattle.expressions.specs.Expression.{avar, Exp, atm, evar, pair}
 use Rattle.expressions.specs.Substitution.{Substitution, subst_e}
 use Rattle.expressions.specs.Contraction.{CRPair, contract}
@@ -17,15 +19,12 @@ use Rattle.semantics.specs.Configuration.{state, with_env}
 use Rattle.semantics.specs.Trace.{configuration}
 use Rattle.sets.specs.Cells.{cells, evar_code, avar_code}
 use Rattle.sets.specs.Twins.Counting.{fresh, handed}
-use Rattle.sets.specs.declared.counter.Handed.TheVariants.{Numbers}
-use Rattle.sets.specs.declared.fill.Filled.TheVariants.{Done, Over as FilledOver}
 use Rattle.sets.proofs.CounterLaws.{handed_numbers}
 use Rattle.runs.specs.Twins.Runs.{appended_pair}
 use Rattle.heap.specs.Twins.Contracted.{Stores, contracted_entries}
 use Rattle.heap.specs.Twins.Entries.{PushAnswer}
 use Rattle.heap.specs.Twins.Moving.{left}
 use Rattle.heap.specs.declared.configuration.Configuration.{Configuration as InCells}
-use Rattle.heap.specs.declared.configuration.Moved.TheVariants.{On, Over}
 use Rattle.runs.proofs.RunLaws.{Below, below_self}
 use Rattle.heap.proofs.HeapLaws.{Holds, Range, Filling, filling_e, Grown, written_holds}
 use Rattle.heap.proofs.PairLaws.{head_holds, tail_holds}
@@ -46,11 +45,11 @@ module _ (p : Prog) (bodies : ℕ → ℕ) (code : List ℕ) where
     abbrev Is : Stores → Type 0
     Is w = Leads p bodies code h used (some (record { cr = applied_pair s R; term = t; fresh = next })) (left (filled_on d w.answer) w.heap w.frame q)
 
-    filled_over : (w : Stores) → w.answer ≡ FilledOver → filled_on d w.answer ≡ Over
+    filled_over : (w : Stores) → w.answer ≡ None → filled_on d w.answer ≡ Err Over
     unfolding filled_on
     filled_over w e = rw e
 
-    filled_done : (w : Stores) (now : ℕ) → w.answer ≡ Done now → filled_on d w.answer ≡ On (placed_as d d.entries now d.place d.counter)
+    filled_done : (w : Stores) (now : ℕ) → w.answer ≡ Some now → filled_on d w.answer ≡ Ok (placed_as d d.entries now d.place d.counter)
     unfolding filled_on
     filled_done w now e = rw e
 
@@ -110,7 +109,7 @@ module _ {p : Prog} {bodies : ℕ → ℕ} {code h f q : List ℕ} {names : List
         rw (le-ltb 65532 c.used (omega arith), T.opens) (split_leads (parts_named c T (c.used + 3) z few (c.used + 1) (c.used + 2) (c.used + 3) (evar a) (evar b) head tail) (omega arith) y.same (omega arith) (omega arith)
         y.holds s after T.on_true)
 
-  numbers : handed c.counter ≡ Numbers (fresh next)
+  numbers : handed c.counter ≡ Some (fresh next)
   numbers = ap handed counts ∙ handed_numbers next coded
 
   -- THE LAW of the true branch on a `?e`

@@ -6,18 +6,18 @@ use mathlib.Core.Option.{some}
 use mathlib.Core.Logic.{inl, inr}
 use native.Mathlib.Omega.{arith}
 use lib.ListN.{length}
+use Rattle.std.specs.Prelude.{Result, Some, Ok, Err}
+use Rattle.restrictions.specs.declared.failure.Failure.{Failure}
+use Rattle.restrictions.specs.declared.failure.Failure.TheVariants.{Over}
 use Rattle.expressions.specs.Expression.{AtomicExp, Exp, atm, pair, nodes}
 use Rattle.expressions.specs.Contraction.{CRPair}
 use Rattle.language.specs.Program.{Term, Param, pe, pa, Prog}
 use Rattle.semantics.specs.Environment.{update_e, update_a}
 use Rattle.semantics.specs.Configuration.{state, with_env, nodes_state, Configuration}
 use Rattle.heap.specs.Twins.Entries.{PushAnswer, pushed}
-use Rattle.heap.specs.declared.entry.Pushed.TheVariants.{Done}
 use Rattle.heap.specs.Twins.Moving.{Left, left}
 use Rattle.heap.specs.Twins.Moving.{Move}
 use Rattle.heap.specs.declared.configuration.Configuration.{Configuration as InCells}
-use Rattle.heap.specs.declared.configuration.Moved.{Moved}
-use Rattle.heap.specs.declared.configuration.Moved.TheVariants.{On, Over}
 use Rattle.runs.proofs.RunLaws.{Below}
 use Rattle.heap.proofs.HeapLaws.{Holds}
 use Rattle.heap.proofs.FrameLaws.{held_kept}
@@ -76,12 +76,12 @@ module _ (c : InCells) (n used place counter : ℕ) where
 
 module _ (p : Prog) (bodies : ℕ → ℕ) (code : List ℕ) where
   -- a branch that is over before it is taken
-  pub over_leads : {h : List ℕ} {used : ℕ} (K : Configuration) (w : Left) → w.answer ≡ Over → 4097 < nodes_state K.cr → Leads p bodies code h used (some K) w
+  pub over_leads : {h : List ℕ} {used : ℕ} (K : Configuration) (w : Left) → w.answer ≡ Err Over → 4097 < nodes_state K.cr → Leads p bodies code h used (some K) w
   over_leads K w e l = leads_to p bodies code K w (inl (e, l))
 
   -- storages that hold a configuration
   pub on_leads : {h g f q : List ℕ} {used : ℕ} {d : InCells} {names : List Param} {P : CRPair state} → HoldsPair g f q d names P → Below used g h → used ≤ d.used → d.used ≤ used + (nodes_state P + 4) → (t : Term) (fresh past : ℕ) →
-      TermLinked p bodies code names d.place t past → d.counter ≡ fresh → (a : Moved) → a ≡ On d → Leads p bodies code h used (some (record { cr = P; term = t; fresh = fresh })) (left a g f q)
+      TermLinked p bodies code names d.place t past → d.counter ≡ fresh → (a : Result InCells Failure) → a ≡ Ok d → Leads p bodies code h used (some (record { cr = P; term = t; fresh = fresh })) (left a g f q)
   on_leads {h} {g} {f} {q} {used} {d} {names} {P} x same grown most t fresh past term counts a e = leads_to p bodies code (record { cr = P; term = t; fresh = fresh }) (left a g f q) (inr (record {
     at = d;
     moved = e;
@@ -110,7 +110,7 @@ module _ {p : Prog} {bodies : ℕ → ℕ} {code g f q : List ℕ} {names : List
         let two : c.entries + 1 + 1 ≡ c.entries + 2 = omega arith in
         let g2 = (pushed (c.entries + 1) 0 mid to (pushed c.entries 0 from mid f).frame).frame in
         rw v.done (record {
-          done = w.done ∙ ap Done two;
+          done = w.done ∙ ap Some two;
           holds = subst (λ (i : ℕ). HoldsPair g g2 q (entries_to i (used_to used c)) (with_name (pe k) (with_name (pe m) names)) (with_parts a b)) two w.holds;
         })
 
@@ -122,7 +122,7 @@ module _ {p : Prog} {bodies : ℕ → ℕ} {code g f q : List ℕ} {names : List
   module _ {h : List ℕ} (same : Below c.used g h) (grown : c.used ≤ used) (fresh : ℕ) (counts : c.counter ≡ fresh) where
     module _ (more place past : ℕ) (sc : List Param) (R : CRPair state) (t : Term) (w : PushAnswer) (N : Named g q (used_to used c) more sc R w) (some_more : more ≤ 2)
         (term : TermLinked p bodies code sc place t past) (most : used ≤ c.used + (nodes_state R + 4)) where
-      bound_placed : placed_with c used place w.answer ≡ On (placed_as c (c.entries + more) used place c.counter)
+      bound_placed : placed_with c used place w.answer ≡ Ok (placed_as c (c.entries + more) used place c.counter)
       unfolding placed_with
       bound_placed = rw N.done
 

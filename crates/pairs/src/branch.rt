@@ -4,39 +4,27 @@ ghost use Rattle.heap.specs.Twins.Moving.{moved};
 ghost use Rattle.pairs.specs.Twins.Branching.{true_taken, false_taken, branches_of};
 
 use crate::split::{split_atom, split_pair};
-use heap::configuration::{Branches, Configuration, Moved};
+use heap::configuration::{Branches, Configuration};
 use looking::look::Tested;
 use looking::take::{take_atom, take_pair};
+use restrictions::failure::Failure;
 
 // Of an atom the false one, of a pair the true one, of a `?e` both. A value that the heap has no room for is a pair.
 pub fn branches_of(t: Tested) -> Branches
     ensures { result ≡ branches_of t }
 {
     match t {
-        Tested::Atom {
-            from: _,
-            to: _,
-            used: _,
-        } => Branches {
+        Tested::Atom { .. } => Branches {
             yes: false,
             no: true,
         },
-        Tested::Pair {
-            from: _,
-            mid: _,
-            to: _,
-            used: _,
-        } => Branches {
+        Tested::Pair { .. } | Tested::Large => Branches {
             yes: true,
             no: false,
         },
-        Tested::Variable { var: _ } => Branches {
+        Tested::Variable { .. } => Branches {
             yes: true,
             no: true,
-        },
-        Tested::Large => Branches {
-            yes: true,
-            no: false,
         },
     }
 }
@@ -48,15 +36,11 @@ pub fn take_true(
     frame: &mut [u16; 12360],
     c: Configuration,
     t: Tested,
-) -> Moved
+) -> Result<Configuration, Failure>
     ensures { moved result heap.new frame.new ≡ true_taken code.now c t heap.old frame.old }
 {
     match t {
-        Tested::Atom {
-            from: _,
-            to: _,
-            used: _,
-        } => Moved::Over,
+        Tested::Atom { .. } | Tested::Large => Err(Failure::Over),
         Tested::Pair {
             from,
             mid,
@@ -64,7 +48,6 @@ pub fn take_true(
             used,
         } => take_pair(code, frame, c, from, mid, to, used),
         Tested::Variable { var } => split_pair(code, heap, frame, c, var),
-        Tested::Large => Moved::Over,
     }
 }
 
@@ -75,18 +58,12 @@ pub fn take_false(
     frame: &mut [u16; 12360],
     c: Configuration,
     t: Tested,
-) -> Moved
+) -> Result<Configuration, Failure>
     ensures { moved result heap.new frame.new ≡ false_taken code.now c t heap.old frame.old }
 {
     match t {
         Tested::Atom { from, to, used } => take_atom(code, frame, c, from, to, used),
-        Tested::Pair {
-            from: _,
-            mid: _,
-            to: _,
-            used: _,
-        } => Moved::Over,
+        Tested::Pair { .. } | Tested::Large => Err(Failure::Over),
         Tested::Variable { var } => split_atom(code, heap, frame, c, var),
-        Tested::Large => Moved::Over,
     }
 }

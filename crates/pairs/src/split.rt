@@ -2,27 +2,17 @@
 // value's cells stand behind what is used. The names are bound before the contraction, and their values are filled with the others.
 ghost use Rattle.std.specs.Prelude.{◌≡◌};
 ghost use Rattle.heap.specs.Twins.Moving.{moved};
-ghost use Rattle.pairs.specs.Twins.Splitting.{filled_on, contracted_all, bound_contracted, pair_made, atom_made, pair_split, atom_split};
+ghost use Rattle.pairs.specs.Twins.Splitting.{contracted_all, bound_contracted, pair_made, atom_made, pair_split, atom_split};
 
-use heap::configuration::{Configuration, Moved};
+use heap::configuration::{Configuration, grown};
 use heap::contract::contract_entries;
-use heap::entry::{Pushed, push_entry};
+use heap::entry::push_entry;
 use linking::code::link_at;
-use looking::take::{bind_parts, placed};
+use looking::take::bind_parts;
+use restrictions::failure::Failure;
 use runs::run;
 use sets::contraction;
-use sets::counter::{Counter, Handed};
-use sets::fill::Filled;
-
-// What a contraction left.
-fn filled_on(c: Configuration, w: Filled) -> Moved
-    ensures { result ≡ filled_on c w }
-{
-    match w {
-        Filled::Done(k) => Moved::On(placed(c, c.entries, k, c.place, c.counter)),
-        Filled::Over => Moved::Over,
-    }
-}
+use sets::counter::Counter;
 
 // All entries with the run from `from` up to what is used in the place of each x.
 fn contract_all(
@@ -31,11 +21,11 @@ fn contract_all(
     c: Configuration,
     x: u16,
     from: usize,
-) -> Moved
+) -> Result<Configuration, Failure>
     ensures { moved result heap.new frame.new ≡ contracted_all c x from heap.old frame.old }
 {
     let w = contract_entries(heap, frame, 0, c.entries, x, from, c.used, c.used);
-    filled_on(c, w)
+    grown(c, c.neqs, w)
 }
 
 // With the names bound, x contracted at a branch.
@@ -47,17 +37,19 @@ fn bound_contracted(
     used: usize,
     place: usize,
     next: u16,
-    p: Pushed,
-) -> Moved
+    p: Option<usize>,
+) -> Result<Configuration, Failure>
     ensures { moved result heap.new frame.new ≡ bound_contracted c x used place next p heap.old frame.old }
 {
-    match p {
-        Pushed::Done(n) => {
-            let d = placed(c, n, used, place, next);
-            contract_all(heap, frame, d, x, c.used)
-        }
-        Pushed::Full => Moved::Over,
-    }
+    let entries = p.ok_or(Failure::Over)?;
+    let d = Configuration {
+        entries,
+        used,
+        place,
+        counter: next,
+        ..c
+    };
+    contract_all(heap, frame, d, x, c.used)
 }
 
 // The pair of two variables in the place of x.
@@ -70,15 +62,14 @@ fn make_pair(
     head: u16,
     tail: u16,
     next: u16,
-) -> Moved
+) -> Result<Configuration, Failure>
     ensures { moved result heap.new frame.new ≡ pair_made code.now c x head tail next heap.old frame.old }
 {
     let used = c.used;
     if 65532 < used {
-        return Moved::Over;
+        return Err(Failure::Over);
     }
-    let l = link_at(code, c.place);
-    let place = l.first as usize;
+    let place = usize::from(link_at(code, c.place).first);
     run::append_pair(heap, head, tail, used);
     let p = bind_parts(frame, c.entries, used + 1, used + 2, used + 3);
     bound_contracted(heap, frame, c, x, used + 3, place, next, p)
@@ -93,15 +84,14 @@ fn make_atom(
     x: u16,
     atom: u16,
     next: u16,
-) -> Moved
+) -> Result<Configuration, Failure>
     ensures { moved result heap.new frame.new ≡ atom_made code.now c x atom next heap.old frame.old }
 {
     let used = c.used;
     if 65534 < used {
-        return Moved::Over;
+        return Err(Failure::Over);
     }
-    let l = link_at(code, c.place);
-    let place = l.second as usize;
+    let place = usize::from(link_at(code, c.place).second);
     heap[used] = atom;
     let p = push_entry(frame, c.entries, 0, used, used + 1);
     bound_contracted(heap, frame, c, x, used + 1, place, next, p)
@@ -114,20 +104,14 @@ pub fn split_pair(
     frame: &mut [u16; 12360],
     c: Configuration,
     x: u16,
-) -> Moved
+) -> Result<Configuration, Failure>
     ensures { moved result heap.new frame.new ≡ pair_split code.now c x heap.old frame.old }
 {
     let counter = Counter { next: c.counter };
-    let h = counter.take();
-    match h {
-        Handed::Numbers(f) => {
-            let next = f.next;
-            let head = contraction::code(f.head, 2);
-            let tail = contraction::code(f.tail, 2);
-            make_pair(code, heap, frame, c, x, head, tail, next.next)
-        }
-        Handed::Spent => Moved::Over,
-    }
+    let f = counter.take().ok_or(Failure::Over)?;
+    let head = contraction::code(f.head, 2);
+    let tail = contraction::code(f.tail, 2);
+    make_pair(code, heap, frame, c, x, head, tail, f.next.next)
 }
 
 // The false branch on the `?e` x.
@@ -137,17 +121,11 @@ pub fn split_atom(
     frame: &mut [u16; 12360],
     c: Configuration,
     x: u16,
-) -> Moved
+) -> Result<Configuration, Failure>
     ensures { moved result heap.new frame.new ≡ atom_split code.now c x heap.old frame.old }
 {
     let counter = Counter { next: c.counter };
-    let h = counter.take();
-    match h {
-        Handed::Numbers(f) => {
-            let next = f.next;
-            let atom = contraction::code(f.atom, 3);
-            make_atom(code, heap, frame, c, x, atom, next.next)
-        }
-        Handed::Spent => Moved::Over,
-    }
+    let f = counter.take().ok_or(Failure::Over)?;
+    let atom = contraction::code(f.atom, 3);
+    make_atom(code, heap, frame, c, x, atom, f.next.next)
 }

@@ -2,8 +2,8 @@
 ghost use Rattle.std.specs.Prelude.{◌≡◌, Bool};
 ghost use Rattle.positions.specs.Twins.Positions.{positioned, at_depth, moved_from, after_step, kept_top, taken_up};
 
-use cells::cell;
-use heap::configuration::{Configuration, Moved};
+use heap::configuration::Configuration;
+use restrictions::failure::Failure;
 use saving::head::Node;
 use saving::saved::Back;
 
@@ -28,12 +28,8 @@ pub fn position_at(n: Node, c: Configuration, top: usize) -> Position
     ensures { result ≡ positioned n c top }
 {
     Position {
-        node: Node {
-            at: c,
-            steps: n.steps,
-            depth: n.depth,
-        },
-        top: top,
+        node: Node { at: c, ..n },
+        top,
     }
 }
 
@@ -41,14 +37,9 @@ pub fn position_at(n: Node, c: Configuration, top: usize) -> Position
 pub fn at_depth(n: Node, depth: usize, top: usize) -> Position
     ensures { result ≡ at_depth n depth top }
 {
-    let c = n.at;
     Position {
-        node: Node {
-            at: c,
-            steps: n.steps,
-            depth: depth,
-        },
-        top: top,
+        node: Node { depth, ..n },
+        top,
     }
 }
 
@@ -57,35 +48,29 @@ pub fn moved_from(p: Position, c: Configuration, decided: bool) -> Position
     ensures { result ≡ moved_from p c decided }
 {
     let n = p.node;
-    let steps = cell::least(n.steps, 65535) + 1;
-    if decided {
-        return Position {
-            node: Node {
-                at: c,
-                steps: steps,
-                depth: cell::least(n.depth, 65535) + 1,
-            },
-            top: p.top,
-        };
-    }
+    let steps = n.steps.min(65535) + 1;
+    let depth = if decided {
+        n.depth.min(65535) + 1
+    } else {
+        n.depth
+    };
     Position {
         node: Node {
             at: c,
-            steps: steps,
-            depth: n.depth,
+            steps,
+            depth,
         },
-        top: p.top,
+        ..p
     }
 }
 
-// Behind a transition of the path, which is never over: it was made before.
-pub fn after_step(p: Position, m: Moved, decided: bool) -> Position
+// Behind a transition of the path, which never fails: it was made before.
+pub fn after_step(p: Position, m: Result<Configuration, Failure>, decided: bool) -> Position
     ensures { result ≡ after_step p m decided }
 {
     match m {
-        Moved::On(c) => moved_from(p, c, decided),
-        Moved::Contradiction => p,
-        Moved::Over => p,
+        Ok(c) => moved_from(p, c, decided),
+        Err(_) => p,
     }
 }
 
@@ -93,19 +78,15 @@ pub fn after_step(p: Position, m: Moved, decided: bool) -> Position
 fn kept_top(from: usize, top: usize, base: usize) -> usize
     ensures { result ≡ kept_top from top base }
 {
-    if top <= base {
-        return base;
-    }
-    from
+    if top <= base { base } else { from }
 }
 
 // The saved configuration that ended at `top` taken up again.
 pub fn taken_up(back: Back, top: usize, base: usize) -> Position
     ensures { result ≡ taken_up back top base }
 {
-    let n = back.node;
     Position {
-        node: n,
+        node: back.node,
         top: kept_top(back.top, top, base),
     }
 }

@@ -2,7 +2,6 @@
 ghost use Rattle.std.specs.Prelude.{◌≡◌};
 ghost use Rattle.positions.specs.Twins.Used.{is_full, is_tight, with_used};
 
-use cells::cell;
 use heap::configuration::Configuration;
 
 // A transition or a meeting writes less than the 24,576 cells that are then free.
@@ -16,22 +15,11 @@ pub fn is_full(used: usize) -> bool
 pub fn is_tight(used: usize, floor: usize) -> bool
     ensures { result ≡ is_tight used floor }
 {
-    if is_full(used) {
-        return true;
-    }
-    cell::least(floor, 65535) + 8192 < used
+    is_full(used) || floor.min(65535) + 8192 < used
 }
 
 pub fn with_used(c: Configuration, used: usize) -> Configuration
     ensures { result ≡ with_used c used }
 {
-    Configuration {
-        inputs: c.inputs,
-        outputs: c.outputs,
-        entries: c.entries,
-        used: used,
-        neqs: c.neqs,
-        place: c.place,
-        counter: c.counter,
-    }
+    Configuration { used, ..c }
 }

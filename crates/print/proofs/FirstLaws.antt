@@ -12,8 +12,9 @@ use Rattle.listing.specs.Text.{print_refusal}
 use Rattle.semantics.specs.Answer.{limits}
 use Rattle.reading.specs.Twins.BothCells.{both_over}
 use Rattle.answers.specs.Headings.{heading_of}
-use Rattle.answers.specs.declared.list.Answer.{Answer}
-use Rattle.answers.specs.declared.list.Answer.TheVariants.{Short}
+use Rattle.answers.specs.ListNumbers.{Answer}
+use Rattle.refusals.specs.declared.refusal.Refused.TheVariants.{Short}
+use Rattle.std.specs.Prelude.{Err}
 use Rattle.lent.proofs.RoomLaws.{long_enough_lem}
 use Rattle.resolve.specs.ListAnswer.{too_short, list_left}
 use Rattle.resolve.specs.ListDemand.{Answered, StoredListing}
@@ -42,7 +43,7 @@ module _ (samples : Bool) (program job work d : List ℕ) where
       let q = promised program job work d e in
       ((q.0, (p.0 ∙ ap (min n) z ∙ ap (λ (t : List ℕ). min n (length t)) f, p.1 ∙ ap (windowed n 0) f)), λ long. with_printed program job work d long samples, q.1)
 
-  pub short_promised : (n : ℕ) {r : Answer} {bytes : ℕ} {page : List ℕ} → r ≡ Short → LeftAs program job work d Short work d → Printed n 0 (print_refusal 45 20 0) bytes page → Promise n r bytes work d page
+  pub short_promised : (n : ℕ) {r : Answer} {bytes : ℕ} {page : List ℕ} → r ≡ Err Short → LeftAs program job work d (Err Short) work d → Printed n 0 (print_refusal 45 20 0) bytes page → Promise n r bytes work d page
   short_promised n f e p = first_promised n (f ∙ e.0, e.1, e.2) (ap (λ (a : Answer). listed_with samples program job (list_left program job work d).cells a) e.0) p
 
   pub texts_promised : (n : ℕ) → too_short work d ≡ false → {r : Answer} {bytes : ℕ} {x a page : List ℕ} → ListOut r x a (list_texts program job work d) → length a ≡ length d →

@@ -12,8 +12,8 @@ use Rattle.semantics.specs.Runner.{Ran, value, ran_over, not_within}
 use Rattle.listing.specs.Print.{digits, print, print_value}
 use Rattle.listing.specs.Text.{print_ran}
 use Rattle.sets.specs.Cells.{cells}
-use Rattle.writer.specs.declared.outcome.Outcome.{Outcome}
-use Rattle.writer.specs.declared.outcome.Outcome.TheVariants.{Value as ValueOf, Over, NotWithin}
+use Rattle.run_answers.specs.declared.run.Ran.{Ran as Outcome}
+use Rattle.run_answers.specs.declared.run.Ran.TheVariants.{Value as ValueOf, Over, NotWithin}
 use Rattle.window.specs.Twins.TreeText.{tree_text}
 use Rattle.writer.specs.Twins.OutcomeText.{value_text, outcome_text}
 use Rattle.print.proofs.TreeLaws.{tree_printed}

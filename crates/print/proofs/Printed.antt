@@ -24,7 +24,7 @@ use Rattle.semantics.specs.Walk.{stop21, stop22, stop23, Word, whole, cut, stop,
 use Rattle.semantics.specs.Answer as meaning
 use Rattle.semantics.specs.Answer.{answered, walked, ran, Listed, list, run}
 use Rattle.semantics.proofs.AcceptedTexts.{run_answer, list_answer}
-use Rattle.listing.specs.Text.{print_refusal, print_refusal_of_neither, list_text, sampled_text, run_text}
+use Rattle.listing.specs.Text.{list_text, sampled_text, run_text}
 use Rattle.lent.specs.Storage.{zeros}
 use Rattle.reading.specs.Twins.BothCells.{BothAnswer, both_over}
 use Rattle.reading.proofs.BothRead.{zeros_length, leaving, refused_texts, taken, texts_by_reading}
@@ -37,20 +37,20 @@ use Rattle.initial.proofs.BeginTexts.{accepted_sides, job_here, job_short}
 use Rattle.lines.specs.LineCells.{lines_cells}
 use Rattle.resolve.specs.RunAnswer as runs
 use Rattle.resolve.specs.ListAnswer.{worded, answer_of, cells_after, too_short, list_left}
-use Rattle.answers.specs.declared.list.Answer.{Answer}
+use Rattle.answers.specs.ListNumbers.{Answer}
 use Rattle.answers.specs.Headings.{heading_of}
-use Rattle.run_answers.specs.declared.run.Answer.{Answer as RunAnswer}
-use Rattle.run_answers.specs.declared.run.Answer.TheVariants.{Value as ValueOf, Over as OverOf, NotWithin as NotWithinOf, Program as RunProgram, Job as RunJob, Short as RunShort}
+use Rattle.run_answers.specs.RunNumbers.{Answer as RunAnswer}
+use Rattle.run_answers.specs.declared.run.Ran.{Ran as Outcome}
+use Rattle.run_answers.specs.declared.run.Ran.TheVariants.{Value as ValueOut}
+use Rattle.std.specs.Prelude.{Ok, Err}
 use Rattle.answers.specs.declared.list.Word.{Word as FirstWord}
 use Rattle.answers.specs.declared.list.Word.TheVariants.{Whole as WholeWord, Cut as CutWord, Stop21 as Word21, Stop22 as Word22, Stop23 as Word23}
-use Rattle.writer.specs.declared.outcome.Outcome.{Outcome}
-use Rattle.writer.specs.declared.outcome.Outcome.TheVariants.{Value as ValueOut, Over, NotWithin}
 use Rattle.window.specs.Twins.TreeText.{symbol_text}
 use Rattle.window.specs.Windows.{windowed, Printed}
 use Rattle.print.specs.Twins.Names.{found_in, text_names}
 use Rattle.print.specs.Twins.ListingText.{walk_word}
 use Rattle.writer.specs.Twins.OutcomeText.{outcome_text}
-use Rattle.print.specs.Twins.RanText.{named_text, ran_text}
+use Rattle.print.specs.Twins.RanText.{named_text, refusal_text, ran_text}
 use Rattle.print.specs.Twins.ListedText.{read_listing, named_listing, headed_text, listed_with, listed_text, sampled_listed, text_with}
 use Rattle.print.proofs.OutcomeLaws.{answer_of as cells_of, outcome_of}
 use Rattle.print.proofs.PrintedTexts.{listing_text_lem, outcome_text_lem, list_refusal_text, run_refusal_text}
@@ -156,21 +156,13 @@ module _ (program job : List ℕ) where
   ran_named w d o = outcome_text (symbol_text program job (take (2 * found_in w.job.placed.texts) w.job.symbols)) d o
 
   abbrev ran_by : BothAnswer → List ℕ → RunAnswer → List ℕ
-  ran_by w d (ValueOf steps length) = ran_named w d (ValueOut steps length)
-  ran_by w d OverOf = ran_named w d Over
-  ran_by w d NotWithinOf = ran_named w d NotWithin
-  ran_by w d (RunProgram number offset) = print_refusal 112 number offset
-  ran_by w d (RunJob number offset) = print_refusal 106 number offset
-  ran_by w d RunShort = print_refusal_of_neither 20
+  ran_by w d (Ok r) = ran_named w d r
+  ran_by w d (Err r) = refusal_text r
 
   ran_is : (d : List ℕ) (a : RunAnswer) → ran_text program job d a ≡ ran_by (both_over true program job (replicate 8194 0)) d a
   unfolding named_text text_names
-  ran_is d (ValueOf steps length) = refl
-  ran_is d OverOf = refl
-  ran_is d NotWithinOf = refl
-  ran_is d (RunProgram number offset) = refl
-  ran_is d (RunJob number offset) = refl
-  ran_is d RunShort = refl
+  ran_is d (Ok r) = refl
+  ran_is d (Err r) = refl
 
   module _ (d : List ℕ) (p : SProg) (j : SJob) (e : reading runner program job ≡ accepted p j) (s u : State) (g : JobStored program job (symbols_of [] program) u j) (room : 2048 ≤ length u.symbols) (x : List ℕ) where
     outcome_from : (r : Ran) → r ≡ ran p j → (rest : List ℕ) → ran_named (taken s u j x) (cells_of r ++ rest) (outcome_of r) ≡ run_text program job

@@ -1,5 +1,5 @@
 // A listing and the beginning of its text, from texts that are read once.
-ghost use Rattle.std.specs.Prelude.{◌≡◌, min, length, false};
+ghost use Rattle.std.specs.Prelude.{◌≡◌, min, length, false, Err};
 ghost use Rattle.language.specs.Source.{SProg, SJob, prog, class};
 ghost use Rattle.language.specs.JobCheck.{lister};
 ghost use Rattle.language.specs.Reading.{accepted, reading};
@@ -10,15 +10,17 @@ ghost use Rattle.resolve.specs.Twins.ListCells.{ListOut, list_texts};
 ghost use Rattle.window.specs.Windows.{windowed, Printed};
 ghost use Rattle.listing.specs.Text.{print_refusal, list_text, sampled_text};
 ghost use Rattle.reading.specs.Twins.BothCells.{both_over};
-ghost use Rattle.answers.specs.declared.list.Answer.TheVariants.{Short};
+ghost use Rattle.refusals.specs.declared.refusal.Refused.TheVariants.{Short};
 ghost use Rattle.answers.specs.Headings.{heading_of};
 ghost use Rattle.print.specs.Twins.ListedText.{terms_left, read_listing, headed_text, SaidOut, listed_with, listed_text, sampled_listed, text_with};
 
 use crate::list::{Terms, job_terms, print_listing};
-use answers::heading::{Heading, heading_of};
+use answers::heading::heading_of;
 use answers::list::Answer;
 use lent::room::short_for_lines;
-use reading::both::read_both;
+use reading::stored::Stored;
+use refusals::letters::{NEITHER, SHORT};
+use refusals::refusal::Refused;
 use resolve::list::list_read;
 use writer::refusal::print_refusal;
 
@@ -42,16 +44,9 @@ fn print_said(
 ) -> usize
     ensures { SaidOut (length out.old) program.now job.now symbols.now (terms_left sizes terms.now) cells.now answer result out.new }
 {
-    let heading = heading_of(answer);
-    match heading {
-        Heading::Listing(first) => print_listing(
-            program, job, symbols, terms, sizes, first, cells, 0, out,
-        ),
-        Heading::Refusal {
-            letter,
-            number,
-            offset,
-        } => print_refusal(letter, number, offset, 0, out),
+    match heading_of(answer) {
+        Ok(first) => print_listing(program, job, symbols, terms, sizes, first, cells, 0, out),
+        Err(line) => print_refusal(line.letter, line.number, line.offset, 0, out),
     }
 }
 
@@ -66,44 +61,44 @@ fn first_texts(
 ) -> Listed
     ensures { ListOut result.answer work.new answer.new (list_texts program.now job.now work.old answer.old) × Printed (length out.old) 0 (headed_text (read_listing samples program.now job.now (both_over false program.now job.now work.old) answer.new) (heading_of result.answer)) result.bytes out.new }
 {
-    let mut marks: [u16; 4097] = [0; 4097];
-    let mut nums: [u16; 4097] = [0; 4097];
-    let mut ends: [u16; 4097] = [0; 4097];
-    let mut heads: [u16; 64] = [0; 64];
-    let mut jmarks: [u16; 4097] = [0; 4097];
-    let mut jnums: [u16; 4097] = [0; 4097];
-    let mut symbols: [u16; 2048] = [0; 2048];
-    let mut terms: [u16; 4097] = [0; 4097];
-    let both = read_both(
-        false,
+    let mut texts = Stored::EMPTY;
+    let mut terms = [0u16; 4097];
+    let both = texts.read(false, program, job, work);
+    let sizes = job_terms(both, &texts.jmarks, &texts.jnums, &mut terms, samples);
+    let said = list_read(
+        both,
+        &texts.marks,
+        &texts.nums,
+        &texts.ends,
+        &texts.heads,
+        &texts.jmarks,
+        &texts.jnums,
+        answer,
+    );
+    let bytes = print_said(
         program,
         job,
-        &mut marks,
-        &mut nums,
-        &mut ends,
-        &mut heads,
-        &mut jmarks,
-        &mut jnums,
-        &mut symbols,
-        work,
+        &texts.symbols,
+        &terms,
+        sizes,
+        said,
+        answer,
+        out,
     );
-    let sizes = job_terms(both, &jmarks, &jnums, &mut terms, samples);
-    let said = list_read(both, &marks, &nums, &ends, &heads, &jmarks, &jnums, answer);
-    let bytes = print_said(program, job, &symbols, &terms, sizes, said, answer, out);
     Listed {
         answer: said,
-        bytes: bytes,
+        bytes,
     }
 }
 
 // 20: neither storage is touched.
 fn short(out: &mut [u8]) -> Listed
-    ensures { (result.answer ≡ Short) × Printed (length out.old) 0 (print_refusal 45 20 0) result.bytes out.new }
+    ensures { (result.answer ≡ Err Short) × Printed (length out.old) 0 (print_refusal 45 20 0) result.bytes out.new }
 {
-    let bytes = print_refusal(b'-', 20, 0, 0, out);
+    let bytes = print_refusal(NEITHER, SHORT, 0, 0, out);
     Listed {
-        answer: Answer::Short,
-        bytes: bytes,
+        answer: Err(Refused::Short),
+        bytes,
     }
 }
 

@@ -4,5 +4,4 @@
 
 pub mod first;
 pub mod list;
-mod names;
 pub mod ran;

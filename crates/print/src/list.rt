@@ -5,12 +5,14 @@ ghost use Rattle.resolve.specs.ListAnswer.{too_short, list_left};
 ghost use Rattle.window.specs.Windows.{windowed};
 ghost use Rattle.window.specs.Twins.Sink.{Wrote};
 ghost use Rattle.print.specs.Twins.ListingText.{word_text, first_text};
-ghost use Rattle.print.specs.Twins.ListedText.{terms_left, job_terms, table_listing, terms_listing, named_listing, listed_text, sampled_listed};
+ghost use Rattle.print.specs.Twins.ListedText.{terms_left, job_terms, table_listing, terms_listing, named_listing, listed_with, listed_text, sampled_listed};
 
-use answers::heading::{FirstLine, Heading, heading_of};
-use answers::list::{Answer, Word};
-use layout::job::{Laid, lay_job};
-use reading::both::{Both, read_both};
+use answers::heading::heading_of;
+use answers::list::{Answer, Listed, Word};
+use layout::job::lay_job;
+use reading::both::Both;
+use reading::stored::Stored;
+use refusals::refusal::Refused;
 use samples::names::name_table;
 use window::parts::front;
 use window::sink;
@@ -22,36 +24,25 @@ fn put_word(out: &mut [u8], place: Place, word: Word) -> Place
     ensures { Wrote place out.old (word_text word) result out.new }
 {
     match word {
-        Word::Whole => {
-            return sink::put_text(out, place, b"whole ");
-        }
-        Word::Cut => {
-            return sink::put_text(out, place, b"cut ");
-        }
-        Word::Stop21 => {
-            return sink::put_text(out, place, b"stop21 ");
-        }
-        Word::Stop22 => {
-            return sink::put_text(out, place, b"stop22 ");
-        }
-        Word::Stop23 => {
-            return sink::put_text(out, place, b"stop23 ");
-        }
+        Word::Whole => sink::put_text(out, place, b"whole "),
+        Word::Cut => sink::put_text(out, place, b"cut "),
+        Word::Stop21 => sink::put_text(out, place, b"stop21 "),
+        Word::Stop22 => sink::put_text(out, place, b"stop22 "),
+        Word::Stop23 => sink::put_text(out, place, b"stop23 "),
     }
 }
 
 // "First line: `whole`, `cut` or `stop21` to `stop23`, the lines, the transitions."
-fn put_first(out: &mut [u8], place: Place, first: FirstLine) -> Place
+fn put_first(out: &mut [u8], place: Place, first: Listed) -> Place
     ensures { Wrote place out.old (first_text first.word first.lines first.count) result out.new }
 {
-    let word = first.word;
-    let p = put_word(out, place, word);
+    let p = put_word(out, place, first.word);
     let q = put_numbers(out, p, first.lines, first.count);
     sink::put_byte(out, q, b'\n')
 }
 
 // How many symbols both texts have, how many cells the job's inputs and output take, and whether samples are called for.
-#[derive(Drop)]
+#[derive(Clone, Copy)]
 pub(crate) struct Terms {
     symbols: u16,
     cells: usize,
@@ -65,17 +56,15 @@ fn print_by_names(
     names: &[u16],
     terms: &[u16],
     sizes: Terms,
-    first: FirstLine,
+    first: Listed,
     answer: &[u16],
     from: usize,
     out: &mut [u8],
 ) -> usize
     ensures { let text = table_listing program.now job.now names.now (terms_left sizes terms.now) answer.now first.word first.lines first.count in (result ≡ min (length out.old) (length text - from)) × (out.new ≡ windowed (length out.old) from text) }
 {
-    let samples = sizes.samples;
     sink::clear(out);
-    let start = sink::opened(from);
-    let p = put_first(out, start, first);
+    let p = put_first(out, sink::opened(from), first);
     let job_cells = front(terms, sizes.cells);
     let q = put_lines(
         out,
@@ -86,37 +75,20 @@ fn print_by_names(
         job_cells,
         first.lines,
         answer,
-        samples,
+        sizes.samples,
     );
     sink::written(q)
 }
 
-// The same with samples: the table has names for new atoms too.
-fn print_by_all_names(
-    program: &[u8],
-    job: &[u8],
-    names: &[u16; 6144],
-    terms: &[u16],
-    sizes: Terms,
-    first: FirstLine,
-    answer: &[u16],
-    from: usize,
-    out: &mut [u8],
-) -> usize
-    ensures { let text = table_listing program.now job.now names.now (terms_left sizes terms.now) answer.now first.word first.lines first.count in (result ≡ min (length out.old) (length text - from)) × (out.new ≡ windowed (length out.old) from text) }
-{
-    print_by_names(program, job, names, terms, sizes, first, answer, from, out)
-}
-
-// The bytes of a listing's text from the byte `from` on, as many as `out` has room for, then zeros; how many they are. The job's inputs and
-// output stand in the first cells of `terms`, the lines one behind the other in `answer`.
+// The bytes of a listing's text from the byte `from` on, as many as `out` has room for, then zeros; how many they are. With samples the table of the names
+// has those of new atoms too. The job's inputs and output stand in the first cells of `terms`, the lines one behind the other in `answer`.
 pub(crate) fn print_listing(
     program: &[u8],
     job: &[u8],
     symbols: &[u16],
     terms: &[u16],
     sizes: Terms,
-    first: FirstLine,
+    first: Listed,
     answer: &[u16],
     from: usize,
     out: &mut [u8],
@@ -124,29 +96,17 @@ pub(crate) fn print_listing(
     ensures { let text = terms_listing program.now job.now symbols.now (terms_left sizes terms.now) answer.now first.word first.lines first.count in (result ≡ min (length out.old) (length text - from)) × (out.new ≡ windowed (length out.old) from text) }
 {
     let table = front(symbols, 2 * (sizes.symbols as usize));
-    let samples = sizes.samples;
-    if samples {
-        let mut names: [u16; 6144] = [0; 6144];
+    if sizes.samples {
+        let mut names = [0u16; 6144];
         name_table(program, job, table, &mut names);
-        return print_by_all_names(program, job, &names, terms, sizes, first, answer, from, out);
+        return print_by_names(program, job, &names, terms, sizes, first, answer, from, out);
     }
     print_by_names(program, job, table, terms, sizes, first, answer, from, out)
 }
 
-// Of texts that are refused.
-fn no_terms(samples: bool) -> Terms
-    ensures { result ≡ record { symbols = 0; cells = 0; samples = samples } }
-{
-    Terms {
-        symbols: 0,
-        cells: 0,
-        samples: samples,
-    }
-}
-
 // The job's inputs and output, laid out again from its tokens. Nothing of texts that are refused.
 pub(crate) fn job_terms(
-    both: Both,
+    both: Result<Both, Refused>,
     jmarks: &[u16],
     jnums: &[u16],
     terms: &mut [u16],
@@ -154,36 +114,17 @@ pub(crate) fn job_terms(
 ) -> Terms
     ensures { terms_left result terms.new ≡ job_terms samples both jmarks.now jnums.now terms.old }
 {
-    match both {
-        Both::Accepted {
-            count: _,
-            symbols,
-            parts,
-            numerals: _,
-        } => {
-            let laid = lay_job(jmarks, jnums, parts, terms, false);
-            match laid {
-                Laid::Done(sizes) => Terms {
-                    symbols: symbols,
-                    cells: sizes.io,
-                    samples: samples,
-                },
-                Laid::Over => Terms {
-                    symbols: symbols,
-                    cells: 0,
-                    samples: samples,
-                },
-            }
-        }
-        Both::Program {
-            number: _,
-            offset: _,
-        } => no_terms(samples),
-        Both::Job {
-            number: _,
-            offset: _,
-        } => no_terms(samples),
-        Both::Short => no_terms(samples),
+    let (symbols, cells) = match both {
+        Ok(read) => match lay_job(jmarks, jnums, read.parts, terms, false) {
+            Some(laid) => (read.symbols, laid.io),
+            None => (read.symbols, 0),
+        },
+        Err(_) => (0, 0),
+    };
+    Terms {
+        symbols,
+        cells,
+        samples,
     }
 }
 
@@ -191,7 +132,7 @@ pub(crate) fn job_terms(
 fn print_named(
     program: &[u8],
     job: &[u8],
-    first: FirstLine,
+    first: Listed,
     cells: &[u16],
     from: usize,
     out: &mut [u8],
@@ -199,32 +140,40 @@ fn print_named(
 ) -> usize
     ensures { let text = named_listing samples program.now job.now cells.now first.word first.lines first.count in (result ≡ min (length out.old) (length text - from)) × (out.new ≡ windowed (length out.old) from text) }
 {
-    let mut marks: [u16; 4097] = [0; 4097];
-    let mut nums: [u16; 4097] = [0; 4097];
-    let mut ends: [u16; 4097] = [0; 4097];
-    let mut heads: [u16; 64] = [0; 64];
-    let mut jmarks: [u16; 4097] = [0; 4097];
-    let mut jnums: [u16; 4097] = [0; 4097];
-    let mut symbols: [u16; 2048] = [0; 2048];
+    let mut texts = Stored::EMPTY;
     let mut work: [u16; 8194] = [0; 8194];
     let mut terms: [u16; 4097] = [0; 4097];
-    let both = read_both(
-        false,
+    let both = texts.read(false, program, job, &mut work);
+    let sizes = job_terms(both, &texts.jmarks, &texts.jnums, &mut terms, samples);
+    print_listing(
         program,
         job,
-        &mut marks,
-        &mut nums,
-        &mut ends,
-        &mut heads,
-        &mut jmarks,
-        &mut jnums,
-        &mut symbols,
-        &mut work,
-    );
-    let sizes = job_terms(both, &jmarks, &jnums, &mut terms, samples);
-    print_listing(
-        program, job, &symbols, &terms, sizes, first, cells, from, out,
+        &texts.symbols,
+        &terms,
+        sizes,
+        first,
+        cells,
+        from,
+        out,
     )
+}
+
+// What the two entries do, with samples or without: the listing or the refusal that an answer is.
+fn print_answer(
+    program: &[u8],
+    job: &[u8],
+    answer: Answer,
+    cells: &[u16],
+    from: usize,
+    out: &mut [u8],
+    samples: bool,
+) -> usize
+    ensures { let text = listed_with samples program.now job.now cells.now answer in (result ≡ min (length out.old) (length text - from)) × (out.new ≡ windowed (length out.old) from text) }
+{
+    match heading_of(answer) {
+        Ok(first) => print_named(program, job, first, cells, from, out, samples),
+        Err(line) => print_refusal(line.letter, line.number, line.offset, from, out),
+    }
 }
 
 // The bytes of the listing's text from the byte `from` on, as many as `out` has room for, then zeros; how many they are. `cells` is the
@@ -239,15 +188,7 @@ pub fn print_list(
 ) -> usize
     ensures { (let text = listed_text program.now job.now cells.now answer in (result ≡ min (length out.old) (length text - from)) × (out.new ≡ windowed (length out.old) from text)) × ((work d : List ℕ) → too_short work d ≡ false → cells.now ≡ (list_left program.now job.now work d).cells → answer ≡ (list_left program.now job.now work d).answer → listed_text program.now job.now cells.now answer ≡ list_text program.now job.now) }
 {
-    let heading = heading_of(answer);
-    match heading {
-        Heading::Listing(first) => { print_named(program, job, first, cells, from, out, false) }
-        Heading::Refusal {
-            letter,
-            number,
-            offset,
-        } => print_refusal(letter, number, offset, from, out),
-    }
+    print_answer(program, job, answer, cells, from, out, false)
 }
 
 // The same with a sample under each line: "each prints under its line as `(in D ..) (out D)`" (02, request 2). Of what `list` left and answered, the text
@@ -262,13 +203,5 @@ pub fn print_sampled(
 ) -> usize
     ensures { (let text = sampled_listed program.now job.now cells.now answer in (result ≡ min (length out.old) (length text - from)) × (out.new ≡ windowed (length out.old) from text)) × ((work d : List ℕ) → too_short work d ≡ false → cells.now ≡ (list_left program.now job.now work d).cells → answer ≡ (list_left program.now job.now work d).answer → sampled_listed program.now job.now cells.now answer ≡ sampled_text program.now job.now) }
 {
-    let heading = heading_of(answer);
-    match heading {
-        Heading::Listing(first) => { print_named(program, job, first, cells, from, out, true) }
-        Heading::Refusal {
-            letter,
-            number,
-            offset,
-        } => print_refusal(letter, number, offset, from, out),
-    }
+    print_answer(program, job, answer, cells, from, out, true)
 }

@@ -3,27 +3,42 @@ ghost use Rattle.std.specs.Prelude.{◌≡◌, false, List, ℕ, ◌-◌, min, l
 ghost use Rattle.listing.specs.Text.{run_text};
 ghost use Rattle.resolve.specs.RunAnswer.{too_short, run_left};
 ghost use Rattle.window.specs.Windows.{windowed};
+ghost use Rattle.print.specs.Twins.Names.{found_in};
 ghost use Rattle.print.specs.Twins.RanText.{named_text, ran_text};
 
-use crate::names::read_names;
-use run_answers::run::Answer;
-use writer::outcome::{Outcome, print_outcome};
+use reading::both::Both;
+use reading::stored::Stored;
+use refusals::refusal::Refused;
+use run_answers::run::{Answer, Ran};
+use writer::outcome::print_outcome;
 use writer::refusal::print_refusal;
 
-// An outcome, the symbols by their names in the texts.
+// How many symbols both texts have; none where one is refused.
+fn found_in(both: Result<Both, Refused>) -> u16
+    ensures { result ≡ found_in both }
+{
+    match both {
+        Ok(read) => read.symbols,
+        Err(_) => 0,
+    }
+}
+
+// What a run comes to, the symbols by their names in the texts, which are read again.
 fn print_named(
     program: &[u8],
     job: &[u8],
-    outcome: Outcome,
+    ran: Ran,
     cells: &[u16],
     from: usize,
     out: &mut [u8],
 ) -> usize
-    ensures { let text = named_text program.now job.now cells.now outcome in (result ≡ min (length out.old) (length text - from)) × (out.new ≡ windowed (length out.old) from text) }
+    ensures { let text = named_text program.now job.now cells.now ran in (result ≡ min (length out.old) (length text - from)) × (out.new ≡ windowed (length out.old) from text) }
 {
-    let mut symbols: [u16; 2048] = [0; 2048];
-    let found = read_names(true, program, job, &mut symbols);
-    print_outcome(program, job, &symbols, found, outcome, cells, from, out)
+    let mut texts = Stored::EMPTY;
+    let mut work = [0u16; 8194];
+    let both = texts.read(true, program, job, &mut work);
+    let found = found_in(both);
+    print_outcome(program, job, &texts.symbols, found, ran, cells, from, out)
 }
 
 // The bytes of the line from the byte `from` on, as many as `out` has room for, then zeros; how many they are. `cells` is the answer storage
@@ -39,14 +54,13 @@ pub fn print_run(
     ensures { (let text = ran_text program.now job.now cells.now answer in (result ≡ min (length out.old) (length text - from)) × (out.new ≡ windowed (length out.old) from text)) × ((work d : List ℕ) → too_short work d ≡ false → cells.now ≡ (run_left program.now job.now work d).cells → answer ≡ (run_left program.now job.now work d).answer → ran_text program.now job.now cells.now answer ≡ run_text program.now job.now) }
 {
     match answer {
-        Answer::Value { steps, length } => {
-            let value = Outcome::Value { steps, length };
-            print_named(program, job, value, cells, from, out)
-        }
-        Answer::Over => print_named(program, job, Outcome::Over, cells, from, out),
-        Answer::NotWithin => print_named(program, job, Outcome::NotWithin, cells, from, out),
-        Answer::Program { number, offset } => print_refusal(b'p', number, offset, from, out),
-        Answer::Job { number, offset } => print_refusal(b'j', number, offset, from, out),
-        Answer::Short => print_refusal(b'-', 20, 0, from, out),
+        Ok(ran) => print_named(program, job, ran, cells, from, out),
+        Err(refused) => print_refusal(
+            refused.letter(),
+            refused.number(),
+            refused.offset(),
+            from,
+            out,
+        ),
     }
 }

@@ -26,9 +26,11 @@ use Rattle.syntax.proofs.JobRead.{JobStored}
 use Rattle.syntax.proofs.JobParts.{job_parts, job_ends_lem, job_numerals_lem}
 use Rattle.lent.specs.Storage.{zeros, roomy}
 use Rattle.texts.specs.Twins.ReadCells.{tool_of, ReadAnswer, if_roomy, read_as, program_cut, job_cut, program_reading, job_cells, job_reading, ProgramLeft}
-use Rattle.reading.specs.Twins.BothCells.{placed_job, after_job, job_behind, BothAnswer, without, after_program, program_first, both_roomy, both_read, both_over}
+use Rattle.reading.specs.Twins.BothCells.{in_program, in_job, placed_job, after_job, job_behind, BothAnswer, without, after_program, program_first, both_roomy, both_read, both_over}
 use Rattle.reading.specs.declared.both.Both.{Both}
-use Rattle.reading.specs.declared.both.Both.TheVariants.{Accepted as Taken, Program, Job, Short}
+use Rattle.refusals.specs.declared.refusal.Refused.{Refused}
+use Rattle.refusals.specs.declared.refusal.Refused.TheVariants.{Program, Job, Short}
+use Rattle.std.specs.Prelude.{Result, Ok, Err}
 use Rattle.reading.proofs.BothTurns.{LeftBy}
 use Rattle.texts.proofs.Reading.{program_held, job_held, job_reads}
 
@@ -67,19 +69,19 @@ numerals_are program job u j g =
     rw q (job_numerals_lem program job (symbols_of [] program) u j g)
 
 -- what both texts leave
-abbrev pub leaving : Both → List ℕ → List ℕ → List ℕ → List ℕ → List ℕ → List ℕ → List ℕ → List ℕ → BothAnswer
+abbrev pub leaving : Result Both Refused → List ℕ → List ℕ → List ℕ → List ℕ → List ℕ → List ℕ → List ℕ → List ℕ → BothAnswer
 leaving r marks nums ends heads jmarks jnums symbols work = record { marks = marks; nums = nums; job = without r ends heads jmarks jnums symbols work }
 
-abbrev pub refused_texts : Text → Refusal → Both
-refused_texts of_program r = Program r.number r.at
-refused_texts of_job r = Job r.number r.at
+abbrev pub refused_texts : Text → Refusal → Result Both Refused
+refused_texts of_program r = Err (Program (record { number = r.number; offset = r.at }))
+refused_texts of_job r = Err (Job (record { number = r.number; offset = r.at }))
 
 -- accepted texts, whose tokens stand in s and u
 abbrev pub taken : State → State → SJob → List ℕ → BothAnswer
 taken s u j work =
-    leaving (Taken (table_of s).count u.found (parts_of u) (record { steps = j.steps.num; walk = j.walk.num; table = j.table.num })) s.marks s.nums (ends_of s) (heads_of s) u.marks u.nums u.symbols work
+    leaving (Ok (record { count = (table_of s).count; symbols = u.found; parts = parts_of u; numerals = record { steps = j.steps.num; walk = j.walk.num; table = j.table.num } })) s.marks s.nums (ends_of s) (heads_of s) u.marks u.nums u.symbols work
 
-pub both_are : {t u : Both} {marks nums ends heads jmarks jnums symbols work : List ℕ} {w : BothAnswer} → LeftBy t marks nums ends heads jmarks jnums symbols work w → t ≡ u →
+pub both_are : {t u : Result Both Refused} {marks nums ends heads jmarks jnums symbols work : List ℕ} {w : BothAnswer} → LeftBy t marks nums ends heads jmarks jnums symbols work w → t ≡ u →
     leaving u marks nums ends heads jmarks jnums symbols work ≡ w
 both_are is f = rw (← f, is.0, is.1, is.2, is.3, is.4, is.5, is.6, is.7, is.8) refl
 
@@ -117,7 +119,7 @@ module _ (runs : Bool) (program job work : List ℕ) (wide : 8194 ≤ length wor
   took_program w = record {
     marks = w.marks;
     nums = w.nums;
-    job = after_program (λ n k. job_behind runs program w.marks w.nums w.ats n w.symbols k heads₀ job zt zt w.names) (λ r. without r w.ats heads₀ zt zt w.symbols w.names) w.answer;
+    job = after_program (λ n k. job_behind runs program w.marks w.nums w.ats n w.symbols k heads₀ job zt zt w.names) (λ r. without r w.ats heads₀ zt zt w.symbols w.names) (in_program w.answer);
   }
 
   enough : both_roomy zt zt zt heads₀ zt zt (replicate 2048 0) work ≡ true
@@ -126,7 +128,7 @@ module _ (runs : Bool) (program job work : List ℕ) (wide : 8194 ≤ length wor
   over_program : (x : Res SProg) → read_program program ≡ x → both_over runs program job work ≡ took_program (program_as x)
   unfolding both_read program_first
   over_program x e =
-      ap (λ (b : Bool). cond b (took_program (program_reading program zt zt zt (replicate 2048 0) work)) (leaving Short zt zt zt heads₀ zt zt (replicate 2048 0) work)) enough ∙ ap took_program (program_is x e)
+      ap (λ (b : Bool). cond b (took_program (program_reading program zt zt zt (replicate 2048 0) work)) (leaving (Err Short) zt zt zt heads₀ zt zt (replicate 2048 0) work)) enough ∙ ap took_program (program_is x e)
 
   -- with a program that is accepted
   module _ (p : SProg) (read : read_program program ≡ ok p) where
@@ -179,7 +181,7 @@ module _ (runs : Bool) (program job work : List ℕ) (wide : 8194 ≤ length wor
       marks = program_state.marks;
       nums = program_state.nums;
       job = record {
-        placed = after_job (placed_job program_state.marks program_state.nums program_state.ats program_state.i heads₀ job w.marks w.ats) program_state.ats heads₀ w.answer;
+        placed = after_job (placed_job program_state.marks program_state.nums program_state.ats program_state.i heads₀ job w.marks w.ats) program_state.ats heads₀ (in_job w.answer);
         jmarks = w.marks;
         jnums = w.nums;
         symbols = w.symbols;
@@ -203,7 +205,7 @@ module _ (runs : Bool) (program job work : List ℕ) (wide : 8194 ≤ length wor
     by_job : (p : SProg) (read : read_program program ≡ ok p) (x : Res SJob) → read_job (tool_of runs) p (symbols_of [] program) job ≡ x → f (both_over runs program job work) ≡ g (reading (tool_of runs) program job)
     by_job p read (refused r) e =
         let s = program_state in
-        ap f (over_job p read (refused r) e) ∙ ap (λ (z : List ℕ). f (leaving (Job r.number r.at) s.marks s.nums s.ats heads₀ (zeros zt) (zeros zt) (zeros s.symbols) z)) (names_left_lem p read)
+        ap f (over_job p read (refused r) e) ∙ ap (λ (z : List ℕ). f (leaving (refused_texts of_job r) s.marks s.nums s.ats heads₀ (zeros zt) (zeros zt) (zeros s.symbols) z)) (names_left_lem p read)
         ∙ on-refused of_job r (reading_is p read (refused r) e) s.marks s.nums s.ats heads₀ (zeros zt) (zeros zt) (zeros s.symbols) ∙ inv (ap g (reading_is p read (refused r) e))
     by_job p read (ok j) e =
         let h = program_stored p read in

@@ -3,3 +3,4 @@
 #![tactic(auto)]
 
 pub mod both;
+pub mod stored;

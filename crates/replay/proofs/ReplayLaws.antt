@@ -9,6 +9,7 @@ use native.Mathlib.Omega.{arith}
 use lib.ListN.{length, take, length-append}
 use lib.Seq.{length-take-le}
 use borrow.Author.Tests.{le-leb, lt-leb}
+use Rattle.std.specs.Prelude.{Err}
 use Rattle.language.specs.Program.{Prog}
 use Rattle.semantics.specs.Configuration.{nodes_state, Configuration}
 use Rattle.semantics.specs.Trace.{Successors, called, branches, successors}
@@ -16,7 +17,7 @@ use Rattle.semantics.specs.Tree.{Node, root, after_call, after_decision}
 use Rattle.semantics.proofs.Backtrack.{Choice, trail_of, backtrack}
 use Rattle.semantics.proofs.Reaching.{branch_of, Reaches, here, by_call, by_decision, reaches_call, reaches_decision, reaches_steps, reaches_good}
 use Rattle.heap.specs.Twins.Moving.{Left}
-use Rattle.heap.specs.declared.configuration.Moved.TheVariants.{Over}
+use Rattle.restrictions.specs.declared.failure.Failure.TheVariants.{Over}
 use Rattle.runs.proofs.RunLaws.{Below}
 use Rattle.saving.specs.Twins.Saving.{SaveLeft, saved_to, LoadLeft, loaded}
 use Rattle.saving.specs.Twins.Records.{Record, record_of, record_cells, records_cells, Fits, Holding}
@@ -76,7 +77,7 @@ module _ (p : Prog) (bodies : ℕ → ℕ) (code : List ℕ) (ok : Accepted p bo
     pub landed : {L : Configuration} {w : Left} → Entered p L → Leads p bodies code h pos.node.at.used (some L) w → Arrives p bodies code h pos.node.at.used L w
     landed {L} {w} g l = go (l.to L refl)
       where
-        go : ((w.answer ≡ Over) × (4097 < nodes_state L.cr)) ⊎ Arrives p bodies code h pos.node.at.used L w → Arrives p bodies code h pos.node.at.used L w
+        go : ((w.answer ≡ Err Over) × (4097 < nodes_state L.cr)) ⊎ Arrives p bodies code h pos.node.at.used L w → Arrives p bodies code h pos.node.at.used L w
         go (inl o) = absurd (omega (arith, o.1, g.size))
         go (inr r) = r
 

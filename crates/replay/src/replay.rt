@@ -16,12 +16,7 @@ use trails::trail::{pending_at, taken_at};
 fn is_there(code: &[u16; 24582], n: Node, last: usize) -> bool
     ensures { result ≡ is_there code.now n last }
 {
-    let c = n.at;
-    let l = link_at(code, c.place);
-    if l.mark == CALL {
-        return false;
-    }
-    last <= n.depth
+    link_at(code, n.at.place).mark != CALL && last <= n.depth
 }
 
 // Saved, also again, where the false branch is untaken.
@@ -64,7 +59,7 @@ fn follow_step(
     }
     let top = save_if(frame, q, saved, p, base, pending_at(path, n.depth));
     let m = take(code, heap, frame, q, c, a, taken_at(path, n.depth));
-    after_step(Position { node: n, top: top }, m, true)
+    after_step(Position { top, ..p }, m, true)
 }
 
 // At most `limit` of them, up to the choice number `last`.
@@ -82,13 +77,11 @@ fn follow(
     ensures { replay_left result heap.new frame.new q.new saved.new ≡ follow_from code.now path.now b.base last b.steps from heap.old frame.old q.old saved.old }
 {
     let mut p = from;
-    let mut left = b.steps;
-    while 0 < left {
+    for _ in 0..b.steps {
         if is_there(code, p.node, last) {
             return p;
         }
         p = follow_step(code, heap, frame, q, path, saved, p, b.base);
-        left -= 1;
     }
     p
 }

@@ -4,6 +4,7 @@ use mathlib.Core.Path.{◌≡◌, refl, ap, subst, ◌∙◌, sym as inv}
 use mathlib.Core.Bool.{Bool, true, false}
 use mathlib.Core.List.{List}
 use lib.ListN.{length, replicate}
+use Rattle.std.specs.Prelude.{Err}
 use Rattle.language.specs.Source.{SProg, SJob, prog, class}
 use Rattle.language.specs.JobCheck.{lister}
 use Rattle.language.specs.Reading.{accepted, reading}
@@ -20,8 +21,8 @@ use Rattle.lent.proofs.RoomLaws.{long_enough_lem}
 use Rattle.resolve.specs.ListAnswer.{ListLeft, worded, answer_of, lines_then, cells_after, too_short, unless_short, list_left}
 use Rattle.resolve.specs.Twins.ListCells.{ListOut, list_texts}
 use Rattle.resolve.specs.ListDemand.{Ended, Answered, StoredListing}
-use Rattle.answers.specs.declared.list.Answer.{Answer}
-use Rattle.answers.specs.declared.list.Answer.TheVariants.{Short}
+use Rattle.refusals.specs.declared.refusal.Refused.TheVariants.{Short}
+use Rattle.answers.specs.ListNumbers.{Answer}
 use Rattle.resolve.proofs.ListMeaning.{texts_left}
 
 ended_word : (w : Word) (l c : ℕ) → Ended (worded w l c) → Unstopped w
@@ -86,7 +87,7 @@ module _ (program job work d : List ℕ) where
   pub promised : {r : Answer} {x a : List ℕ} → LeftAs program job work d r x a → Promise program job work d r x a
   promised e = ((e.0, e.1, e.2), λ s t f h. list_demand program job work d s t f e.0 e.2 h)
 
-  pub short_left : too_short work d ≡ true → LeftAs program job work d Short work d
+  pub short_left : too_short work d ≡ true → LeftAs program job work d (Err Short) work d
   unfolding list_left
   short_left e = rw e (refl, refl, refl)
 

@@ -9,6 +9,7 @@ use native.Mathlib.Omega.{arith}
 use lib.Dec.{eqb}
 use lib.ListN.{length, replicate, length-append}
 use borrow.Author.Tests.{eqb-true, eq-eqb, lt-ltb}
+use Rattle.std.specs.Prelude.{Result, Ok, Err}
 use Rattle.language.specs.Bytes.{Refusal}
 use Rattle.language.specs.Tokens.{Text, of_program, of_job, symbols_of}
 use Rattle.language.specs.Source.{SProg, SJob, prog, class}
@@ -17,7 +18,6 @@ use Rattle.language.specs.Reading.{Reading, accepted, rejected, reading}
 use Rattle.language.specs.WellFormed.{admitted}
 use Rattle.language.proofs.Acceptance.{accepted_passed}
 use Rattle.lexer.specs.Twins.Lexed.{State}
-use Rattle.syntax.specs.declared.job_ends.JobEnds.{JobEnds}
 use Rattle.syntax.specs.declared.numerals.Numerals.{Numerals}
 use Rattle.lent.specs.Storage.{zeros}
 use Rattle.syntax.proofs.ProgramRead.{ProgramStored}
@@ -37,8 +37,9 @@ use Rattle.linking.proofs.ProgramLaws.{bodies_of}
 use Rattle.linking.proofs.Accepted.{accepted_linked, accepted_kept}
 use Rattle.constants.proofs.ConstantLaws.{NoConstants, nought_at, nought_none}
 use Rattle.initial.specs.Twins.Beginning.{main_body, BegunLeft, begun_at}
-use Rattle.initial.specs.declared.begin.Begun.{Begun}
-use Rattle.initial.specs.declared.begin.Begun.TheVariants.{Over as BegunOver}
+use Rattle.restrictions.specs.declared.failure.Failure.{Failure}
+use Rattle.restrictions.specs.declared.failure.Failure.TheVariants.{Over as NoRoom}
+use Rattle.heap.specs.declared.configuration.Configuration.{Configuration as InCells}
 use Rattle.initial.proofs.BeginLaws.{in_main, Begins, BeginsAs, start_main}
 use Rattle.initial.proofs.BeginTexts.{params_few, accepted_begins}
 use Rattle.tracing.proofs.ShowLaws.{Accepted}
@@ -53,9 +54,9 @@ use Rattle.reading.specs.Twins.BothCells.{BothAnswer, both_over}
 use Rattle.resolve.specs.ListAnswer.{ListLeft, worded, answer_of, lines_then, cells_after}
 use Rattle.resolve.specs.Twins.ListCells.{came_to, ReadLeft, read_left, ListOut, listed_read, list_behind, list_texts}
 use Rattle.reading.specs.declared.both.Both.{Both}
-use Rattle.reading.specs.declared.both.Both.TheVariants.{Accepted as Taken}
-use Rattle.answers.specs.declared.list.Answer.{Answer as Outcome}
-use Rattle.answers.specs.declared.list.Answer.TheVariants.{Listed as Said}
+use Rattle.refusals.specs.declared.refusal.Refused.{Refused}
+use Rattle.answers.specs.ListNumbers.{Answer as Outcome}
+use Rattle.answers.specs.declared.list.Listed.{Listed as Listing}
 use Rattle.answers.specs.declared.list.Word.TheVariants.{Whole, Cut}
 use Rattle.reading.proofs.BothTurns.{LeftBy}
 use Rattle.reading.proofs.BothRead.{zeros_length, ends_of, table_of, heads_of, parts_of, leaving, refused_texts, taken, both_are, texts_by_reading}
@@ -66,30 +67,30 @@ abbrev left_of : Outcome → List ℕ → List ℕ → ListLeft
 left_of r work d = record { answer = r; work = work; cells = d }
 
 -- what `list_texts` leaves behind both texts
-pub list_left : (program job work d : List ℕ) {t : Both} {marks nums ends heads jmarks jnums symbols x b : List ℕ} {o : Outcome} → LeftBy t marks nums ends heads jmarks jnums symbols x (both_over false program job work) →
+pub list_left : (program job work d : List ℕ) {t : Result Both Refused} {marks nums ends heads jmarks jnums symbols x b : List ℕ} {o : Outcome} → LeftBy t marks nums ends heads jmarks jnums symbols x (both_over false program job work) →
     read_left o b ≡ listed_read t marks nums ends heads jmarks jnums d → ListOut o x b (list_texts program job work d)
 unfolding list_texts
 list_left program job work d {t} {x = x} {b = b} {o = o} is h =
     subst (λ (w : BothAnswer). ListOut o x b (list_behind d w)) (both_are {w = both_over false program job work} is refl) (ap (λ (w : ReadLeft). w.answer) h, refl, ap (λ (w : ReadLeft). w.cells) h)
 
-pub walked_behind : (d marks nums ends heads jmarks jnums : List ℕ) (c n : ℕ) (e : JobEnds) (k : Numerals) {a b code laid : List ℕ} {tokens body : ℕ} {r : Came} {o : Outcome} → code ≡ program_linked marks nums ends heads c (replicate 24582 0) → tokens ≡ program_end ends heads c → body ≡ main_body marks heads → a ≡ zeros d →
-    job_laid (job_left r b) laid ≡ walk_laid code tokens body jmarks jnums e k a → o ≡ came_to r → read_left o b ≡ listed_read (Taken c n e k) marks nums ends heads jmarks jnums d
+pub walked_behind : (d marks nums ends heads jmarks jnums : List ℕ) (w : Both) {a b code laid : List ℕ} {tokens body : ℕ} {r : Came} {o : Listing} → code ≡ program_linked marks nums ends heads w.count (replicate 24582 0) → tokens ≡ program_end ends heads w.count → body ≡ main_body marks heads → a ≡ zeros d →
+    job_laid (job_left r b) laid ≡ walk_laid code tokens body jmarks jnums w.parts w.numerals a → o ≡ came_to r → read_left (Ok o) b ≡ listed_read (Ok w) marks nums ends heads jmarks jnums d
 unfolding listed_read
-walked_behind d marks nums ends heads jmarks jnums c n e k {a = a} {code = code} {tokens = tokens} {body = body} l t m z h g =
+walked_behind d marks nums ends heads jmarks jnums w {a = a} {code = code} {tokens = tokens} {body = body} l t m z h g =
     let v =
-    ap (λ (w : JobLaid). w.left) h ∙ ap (λ (s : List ℕ). walk_job s tokens body jmarks jnums e k a) l ∙ ap (λ (i : ℕ). walk_job (program_linked marks nums ends heads c (replicate 24582 0)) i body jmarks jnums e k a) t ∙ ap (λ (i : ℕ). walk_job (program_linked marks nums ends heads c (replicate 24582 0)) (program_end ends heads c) i jmarks jnums e k a) m
-    ∙ ap (walk_job (program_linked marks nums ends heads c (replicate 24582 0)) (program_end ends heads c) (main_body marks heads) jmarks jnums e k) z
+    ap (λ (w : JobLaid). w.left) h ∙ ap (λ (s : List ℕ). walk_job s tokens body jmarks jnums w.parts w.numerals a) l ∙ ap (λ (i : ℕ). walk_job (program_linked marks nums ends heads w.count (replicate 24582 0)) i body jmarks jnums w.parts w.numerals a) t ∙ ap (λ (i : ℕ). walk_job (program_linked marks nums ends heads w.count (replicate 24582 0)) (program_end ends heads w.count) i jmarks jnums w.parts w.numerals a) m
+    ∙ ap (walk_job (program_linked marks nums ends heads w.count (replicate 24582 0)) (program_end ends heads w.count) (main_body marks heads) jmarks jnums w.parts w.numerals) z
     in
-    ap₂ read_left (g ∙ ap (λ (w : JobLeft). came_to w.walked) v) (ap (λ (w : JobLeft). w.answer) v)
+    ap₂ read_left (ap Ok (g ∙ ap (λ (w : JobLeft). came_to w.walked) v)) (ap (λ (w : JobLeft). w.answer) v)
 
 -- the answer by its definition, over an answer storage as long as d
 abbrev said_of : List ℕ → List ℕ → Walked → ListLeft
 said_of x d w = left_of (worded (word_of w) (length (lines_of w)) (count_of w)) x (lines_then (lines_of w) d)
 
-leaves_word : (w : Walked) (v : JobLeft) → Leaves w v → came_to v.walked ≡ worded (word_of w) (length (lines_of w)) (count_of w)
+leaves_word : (w : Walked) (v : JobLeft) → Leaves w v → Ok (came_to v.walked) ≡ worded (word_of w) (length (lines_of w)) (count_of w)
 leaves_word (going r) v h = rw (h.ending, h.cut, h.count, h.lines.count) (pick r.cut)
   where
-    pick : (b : Bool) → Said (cond b Cut Whole) (length r.lines) r.count ≡ worded (cond b cut whole) (length r.lines) r.count
+    pick : (b : Bool) → Ok (record { word = cond b Cut Whole; lines = length r.lines; count = r.count }) ≡ worded (cond b cut whole) (length r.lines) r.count
     pick true = refl
     pick false = refl
 leaves_word (stopped stop21 r) v h = rw (h.ending, h.count, h.lines.count) refl
@@ -104,7 +105,7 @@ leaves_cells w v d h l =
 
 -- what a walk came to, by its answer
 abbrev walk_left : List ℕ → JobLeft → ListLeft
-walk_left x v = left_of (came_to v.walked) x v.answer
+walk_left x v = left_of (Ok (came_to v.walked)) x v.answer
 
 leaves_said : (w : Walked) (v : JobLeft) (x d : List ℕ) → Leaves w v → length v.answer ≡ length d → walk_left x v ≡ said_of x d w
 leaves_said w v x d h l =
@@ -163,7 +164,7 @@ module _ (program job : List ℕ) (p : SProg) (j : SJob) (e : reading lister pro
   begins = accepted_begins lister program job p j e u g bodies code linked (replicate 65535 0) (replicate 12360 0) (replicate 4096 0) (zeros_length 65535) (zeros_length 12360) (zeros_length 4096)
 
   module _ (d : List ℕ) (long : answer_room ≤ length d) where
-    abbrev walks : Begun → JobLeft
+    abbrev walks : Result InCells Failure → JobLeft
     walks b = on_begun code tokens numerals (zeros d) begun b
 
     nothing_held : LinesHeld [] 0 (zeros d) nothing_found.lines
@@ -177,7 +178,7 @@ module _ (program job : List ℕ) (p : SProg) (j : SJob) (e : reading lister pro
       abbrev back : Walked
       back = walked_of (walk_back_from (prog p) (limits j) N (some K))
 
-      over_leaves : 4097 < nodes_state K.cr → Leaves back (walks BegunOver)
+      over_leaves : 4097 < nodes_state K.cr → Leaves back (walks (Err NoRoom))
       over_leaves l = rw (start_over (prog p) (limits j) N K (omega arith)) (record { ending = refl; cut = refl; count = refl; lines = nothing_held })
 
       on_leaves : Begins (prog p) bodies code (in_main (prog p) K) begun → Leaves back (walks begun.answer)
@@ -189,7 +190,7 @@ module _ (program job : List ℕ) (p : SProg) (j : SJob) (e : reading lister pro
 
       -- The walk over the cells of accepted texts is that of the definitions.
       walk_leaves : BeginsAs (prog p) bodies code (some K) begun → Leaves back (walks begun.answer)
-      walk_leaves (inl o) = subst (λ (b : Begun). Leaves back (walks b)) (inv o.0) (over_leaves o.1)
+      walk_leaves (inl o) = subst (λ (b : Result InCells Failure). Leaves back (walks b)) (inv o.0) (over_leaves o.1)
       walk_leaves (inr b) = on_leaves b
 
       found_back : SameFindings back found

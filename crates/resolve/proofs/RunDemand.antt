@@ -5,6 +5,7 @@ use mathlib.Core.Bool.{Bool, true, false}
 use mathlib.Core.List.{List}
 use native.Mathlib.Omega.{arith}
 use lib.ListN.{length, replicate}
+use Rattle.std.specs.Prelude.{Err}
 use Rattle.expressions.specs.Expression.{Value}
 use Rattle.language.specs.Source.{SProg, SJob, prog}
 use Rattle.language.specs.JobCheck.{runner}
@@ -23,9 +24,8 @@ use Rattle.lent.proofs.RoomLaws.{long_enough_lem}
 use Rattle.resolve.specs.RunAnswer.{RunLeft, answer_of, cells_after, too_short, unless_short, run_left}
 use Rattle.resolve.specs.Twins.RunCells.{RunOut, run_texts}
 use Rattle.resolve.specs.RunDemand.{Answered, StoredRun}
-use Rattle.run_answers.specs.RunNumbers.{length_of}
-use Rattle.run_answers.specs.declared.run.Answer.{Answer}
-use Rattle.run_answers.specs.declared.run.Answer.TheVariants.{Short}
+use Rattle.refusals.specs.declared.refusal.Refused.TheVariants.{Short}
+use Rattle.run_answers.specs.RunNumbers.{Answer, length_of}
 use Rattle.resolve.proofs.RunMeaning.{texts_left}
 
 module _ (program job work d : List ℕ) (s : SProg) (t : SJob) (e : reading runner program job ≡ accepted s t) where
@@ -86,7 +86,7 @@ module _ (program job work d : List ℕ) where
   pub promised : {r : Answer} {x a : List ℕ} → LeftAs program job work d r x a → Promise program job work d r x a
   promised e = ((e.0, e.1, e.2), λ s t f h. run_demand program job work d s t f e.0 e.2 h)
 
-  pub short_left : too_short work d ≡ true → LeftAs program job work d Short work d
+  pub short_left : too_short work d ≡ true → LeftAs program job work d (Err Short) work d
   unfolding run_left
   short_left e = rw e (refl, refl, refl)
 

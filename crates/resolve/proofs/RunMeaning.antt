@@ -6,6 +6,7 @@ use mathlib.Core.List.{List, [], ◌++◌, map}
 use mathlib.Core.Logic.{inl, inr}
 use native.Mathlib.Omega.{arith}
 use lib.ListN.{length, replicate}
+use Rattle.std.specs.Prelude.{Result, Ok, Err}
 use Rattle.expressions.specs.Expression.{Value, Exp}
 use Rattle.sets.specs.Cells.{cells}
 use Rattle.language.specs.Program.{find}
@@ -17,7 +18,6 @@ use Rattle.language.specs.WellFormed.{fits, admitted}
 use Rattle.language.specs.Reading.{accepted, rejected, reading}
 use Rattle.language.proofs.Acceptance.{accepted_passed}
 use Rattle.lexer.specs.Twins.Lexed.{State}
-use Rattle.syntax.specs.declared.job_ends.JobEnds.{JobEnds}
 use Rattle.lent.specs.Storage.{zeros}
 use Rattle.syntax.proofs.ProgramRead.{ProgramStored}
 use Rattle.syntax.proofs.JobRead.{JobStored}
@@ -33,8 +33,9 @@ use Rattle.linking.proofs.ProgramLaws.{bodies_of}
 use Rattle.constants.proofs.ConstantLaws.{NoConstants, nought_at, nought_none}
 use Rattle.linking.proofs.Accepted.{accepted_linked, accepted_kept}
 use Rattle.initial.specs.Twins.Beginning.{main_body, BegunLeft, begun_at}
-use Rattle.initial.specs.declared.begin.Begun.{Begun}
-use Rattle.initial.specs.declared.begin.Begun.TheVariants.{Over as BegunOver}
+use Rattle.restrictions.specs.declared.failure.Failure.{Failure}
+use Rattle.restrictions.specs.declared.failure.Failure.TheVariants.{Over as NoRoom}
+use Rattle.heap.specs.declared.configuration.Configuration.{Configuration as InCells}
 use Rattle.initial.proofs.BeginLaws.{Begins}
 use Rattle.initial.proofs.BeginTexts.{params_few}
 use Rattle.initial.proofs.EmbedLaws.{noughts, ones, all_embed}
@@ -42,15 +43,15 @@ use Rattle.initial.proofs.RunBegins.{run_main, RunsAs, accepted_runs}
 use Rattle.tracing.proofs.ShowLaws.{Accepted}
 use Rattle.running.specs.Twins.Answers.{RanAnswer, ran_answer, settled}
 use Rattle.forward.specs.Twins.Running.{run_begun, run_inputs}
-use Rattle.running.specs.declared.ran.Ran.{Ran as RanCells}
 use Rattle.forward.proofs.RunMeans.{RanMeans, runner_over, run_means}
 use Rattle.resolve.specs.RunAnswer.{RunLeft, answer_of, cells_after}
-use Rattle.run_answers.specs.declared.run.Answer.{Answer as Outcome}
-use Rattle.run_answers.specs.declared.run.Answer.TheVariants.{Value as ValueOf, Over}
+use Rattle.refusals.specs.declared.refusal.Refused.{Refused}
+use Rattle.run_answers.specs.RunNumbers.{Answer as Outcome}
+use Rattle.run_answers.specs.declared.run.Ran.{Ran as RanCells}
+use Rattle.run_answers.specs.declared.run.Ran.TheVariants.{Value as ValueOf, Over}
 use Rattle.reading.specs.Twins.BothCells.{BothAnswer, both_over}
-use Rattle.resolve.specs.Twins.RunCells.{answer_ran, RunOut, ran_left, run_behind, run_texts}
+use Rattle.resolve.specs.Twins.RunCells.{RunOut, ran_left, run_behind, run_texts}
 use Rattle.reading.specs.declared.both.Both.{Both}
-use Rattle.reading.specs.declared.both.Both.TheVariants.{Accepted as Taken}
 use Rattle.reading.proofs.BothTurns.{LeftBy}
 use Rattle.reading.proofs.BothRead.{zeros_length, drop_zeros, ends_of, table_of, heads_of, parts_of, leaving, refused_texts, taken, both_are, texts_by_reading}
 
@@ -58,19 +59,19 @@ abbrev left_of : Outcome → List ℕ → List ℕ → RunLeft
 left_of r work d = record { answer = r; work = work; cells = d }
 
 -- what `run_texts` leaves behind both texts
-pub run_left_lem : (program job work d : List ℕ) {t u : Both} {marks nums ends heads jmarks jnums symbols x b : List ℕ} {o : Outcome} → LeftBy t marks nums ends heads jmarks jnums symbols x (both_over true program job work) → t ≡ u →
+pub run_left_lem : (program job work d : List ℕ) {t u : Result Both Refused} {marks nums ends heads jmarks jnums symbols x b : List ℕ} {o : Outcome} → LeftBy t marks nums ends heads jmarks jnums symbols x (both_over true program job work) → t ≡ u →
     RunOut o x b (run_behind d (leaving u marks nums ends heads jmarks jnums symbols x)) → RunOut o x b (run_texts program job work d)
 unfolding run_texts
 run_left_lem program job work d {x = x} {b = b} {o = o} is f h = subst (λ (w : BothAnswer). RunOut o x b (run_behind d w)) (both_are {w = both_over true program job work} is f) h
 
-pub ran_behind : (d marks nums ends heads jmarks jnums : List ℕ) (c : ℕ) (e : JobEnds) (n : ℕ) {x a b code : List ℕ} {r : RanCells} {o : Outcome} → code ≡ program_linked marks nums ends heads c (replicate 24582 0) → a ≡ zeros d →
-    ran_answer r b ≡ run_inputs marks heads jmarks jnums e code n a → o ≡ answer_ran r → RunOut o x b (run_behind d (leaving (Taken c 0 e (record { steps = n; walk = 0; table = 0 })) marks nums ends heads jmarks jnums [] x))
-ran_behind d marks nums ends heads jmarks jnums c e n {a = a} l z h g =
+pub ran_behind : (d marks nums ends heads jmarks jnums symbols : List ℕ) (w : Both) {x a b code : List ℕ} {r : RanCells} → code ≡ program_linked marks nums ends heads w.count (replicate 24582 0) → a ≡ zeros d →
+    ran_answer r b ≡ run_inputs marks heads jmarks jnums w.parts code w.numerals.steps a → RunOut (Ok r) x b (run_behind d (leaving (Ok w) marks nums ends heads jmarks jnums symbols x))
+ran_behind d marks nums ends heads jmarks jnums symbols w {a = a} l z h =
     let v =
-    h ∙ ap (λ (s : List ℕ). run_inputs marks heads jmarks jnums e s n a) l
-    ∙ ap (run_inputs marks heads jmarks jnums e (program_linked marks nums ends heads c (replicate 24582 0)) n) z
+    h ∙ ap (λ (s : List ℕ). run_inputs marks heads jmarks jnums w.parts s w.numerals.steps a) l
+    ∙ ap (run_inputs marks heads jmarks jnums w.parts (program_linked marks nums ends heads w.count (replicate 24582 0)) w.numerals.steps) z
     in
-    (g ∙ ap (λ (w : RanAnswer). answer_ran w.ran) v, refl, ap (λ (w : RanAnswer). w.answer) v)
+    (ap (λ (w : RanAnswer). Ok w.ran) v, refl, ap (λ (w : RanAnswer). w.answer) v)
 
 -- Two texts that the runner accepted, their tokens in storage.
 module _ (program job : List ℕ) (p : SProg) (j : SJob) (e : reading runner program job ≡ accepted p j)
@@ -107,7 +108,7 @@ module _ (program job : List ℕ) (p : SProg) (j : SJob) (e : reading runner pro
   begins = accepted_runs program job p j e u g bodies code linked (replicate 65535 0) (replicate 12360 0) (replicate 4096 0) (zeros_length 65535) (zeros_length 12360) (zeros_length 4096)
 
   module _ (d : List ℕ) (long : 4096 ≤ length d) (x : List ℕ) where
-    abbrev runs : Begun → RanAnswer
+    abbrev runs : Result InCells Failure → RanAnswer
     runs b = run_begun code b N begun.heap begun.frame begun.q (zeros d)
 
     on_means : Begins (prog p) bodies code (run_main (prog p) is) begun → RanMeans (zeros d) (ran p j) (runs begun.answer)
@@ -115,10 +116,10 @@ module _ (program job : List ℕ) (p : SProg) (j : SJob) (e : reading runner pro
         let a = accepted_passed runner program job p j e in
         let f = ground_fits _ (find (prog p) 0).params (class j).con.ins a.fits in
         let z : fits (find (prog p) 0).params (map embed is) ≡ true = subst (λ (ds : List Exp). fits (find (prog p) 0).params ds ≡ true) (inv (all_embed (class j).con.ins (a.ground_inputs refl noughts ones))) a.fits in
-        subst (λ (o : Begun). RanMeans (zeros d) (ran p j) (runs o)) (inv b.on)
+        subst (λ (o : Result InCells Failure). RanMeans (zeros d) (ran p j) (runs o)) (inv b.on)
         (run_means (prog p) bodies code ok empty is (zeros d) (omega (arith, zeros_length (length d))) f z begun.heap begun.frame begun.q b.at b.few b.stands N)
 
-    over_means : begun.answer ≡ BegunOver → 4096 < nodes_next is (go (find (prog p) 0).body (start_env (prog p) is)) → RanMeans (zeros d) (ran p j) (runs begun.answer)
+    over_means : begun.answer ≡ Err NoRoom → 4096 < nodes_next is (go (find (prog p) 0).body (start_env (prog p) is)) → RanMeans (zeros d) (ran p j) (runs begun.answer)
     over_means o l = rw (o, runner_over (prog p) is N l) (refl, refl)
 
     ran_means : RanMeans (zeros d) (ran p j) (runs begun.answer)
@@ -130,8 +131,8 @@ module _ (program job : List ℕ) (p : SProg) (j : SJob) (e : reading runner pro
 
     -- what is left of a run, by what it means
     ran_settled : (r : Ran) (w : RanAnswer) → RanMeans (zeros d) r w → ran_left x (settled w) ≡ left_of (answer_of (answered r)) x (cells_after (answered r) d)
-    ran_settled (value k v) w h = rw h (ap (λ (c : List ℕ). left_of (ValueOf k (nodes_value v)) x (cells (embed v) ++ c)) (drop_zeros (nodes_value v) (length d)))
-    ran_settled ran_over w h = rw h.0 (ap (λ (n : ℕ). left_of Over x (replicate n 0)) (h.1 ∙ zeros_length (length d)))
+    ran_settled (value k v) w h = rw h (ap (λ (c : List ℕ). left_of (Ok (ValueOf k (nodes_value v))) x (cells (embed v) ++ c)) (drop_zeros (nodes_value v) (length d)))
+    ran_settled ran_over w h = rw h.0 (ap (λ (n : ℕ). left_of (Ok Over) x (replicate n 0)) (h.1 ∙ zeros_length (length d)))
     ran_settled not_within w h = rw h refl
 
     pub accepted_means : run_behind d (taken s u j x) ≡ left_of (answer_of (answered (ran p j))) x (cells_after (answered (ran p j)) d)

@@ -1,14 +1,13 @@
 -- What `list` answers, and what it leaves in the two lent storages (01, "The walk and what stops it", "From the state").
-use Rattle.std.specs.Prelude.{ℕ, ◌-◌, Bool, true, false, cond, List, ◌++◌, ltb, length, replicate}
-use Rattle.language.specs.Tokens.{of_program, of_job}
+use Rattle.std.specs.Prelude.{ℕ, ◌-◌, Bool, true, false, cond, List, ◌++◌, Ok, Err, ltb, length, replicate}
 use Rattle.semantics.specs.Tree.{Line}
 use Rattle.semantics.specs.Walk.{stop21, stop22, stop23, Word, whole, cut, stop, word_of, lines_of, count_of}
 use Rattle.semantics.specs.Answer as meaning
 use Rattle.lent.specs.Storage.{zeros}
 use Rattle.lines.specs.LineCells.{lines_cells, answer_room}
-use Rattle.resolve.specs.RunAnswer.{work_cells}
-use Rattle.answers.specs.declared.list.Answer.{Answer}
-use Rattle.answers.specs.declared.list.Answer.TheVariants.{Listed, Program, Job, Short}
+use Rattle.resolve.specs.RunAnswer.{refused_as, work_cells}
+use Rattle.refusals.specs.declared.refusal.Refused.TheVariants.{Short}
+use Rattle.answers.specs.ListNumbers.{Answer}
 use Rattle.answers.specs.declared.list.Word.{Word as FirstWord}
 use Rattle.answers.specs.declared.list.Word.TheVariants.{Whole, Cut, Stop21, Stop22, Stop23}
 
@@ -27,12 +26,11 @@ first_word (stop stop23) = Stop23
 
 -- by the first word of the listing, the number of its lines and of the transitions
 abbrev pub worded : Word → ℕ → ℕ → Answer
-worded word lines count = Listed (first_word word) lines count
+worded word lines count = Ok (record { word = first_word word; lines = lines; count = count })
 
 abbrev pub answer_of : meaning.Answer meaning.Listed → Answer
 answer_of (meaning.Answer.answered w) = worded (word_of w.walked) (length (lines_of w.walked)) (count_of w.walked)
-answer_of (meaning.Answer.refused of_program r) = Program r.number r.at
-answer_of (meaning.Answer.refused of_job r) = Job r.number r.at
+answer_of (meaning.Answer.refused t r) = Err (refused_as t r)
 
 -- "the lines found before, as its beginning; zeros follow to the end"
 abbrev pub lines_then : List Line → List ℕ → List ℕ
@@ -49,7 +47,7 @@ too_short work answer = cond (ltb (length work) work_cells) true (ltb (length an
 
 -- "before all else, .. nothing touched"
 abbrev pub unless_short : Bool → ListLeft → List ℕ → List ℕ → ListLeft
-unless_short true w work answer = record { answer = Short; work = work; cells = answer }
+unless_short true w work answer = record { answer = Err Short; work = work; cells = answer }
 unless_short false w work answer = w
 
 -- "Working storage is zero after each call but one refused with 20."

@@ -1,5 +1,5 @@
 -- Demands 2 and 3 for the lines that stand in the answer storage.
-use Rattle.std.specs.Prelude.{ℕ, ◌≡◌, List, length}
+use Rattle.std.specs.Prelude.{ℕ, ◌≡◌, List, Ok, Err, length}
 use Rattle.std.proofs.Math.Option.{some}
 use Rattle.expressions.specs.Class.{IOClass}
 use Rattle.language.specs.Program.{Prog}
@@ -11,28 +11,26 @@ use Rattle.semantics.specs.Stops.{Stops}
 use Rattle.semantics.specs.StopOrder.{visits, InOrder, VisitsByTheRules}
 use Rattle.lines.specs.LineReading.{read_lines}
 use Rattle.resolve.specs.ListAnswer.{worded}
-use Rattle.answers.specs.ListNumbers.{lines_of as lines_in}
-use Rattle.answers.specs.declared.list.Answer.{Answer}
-use Rattle.answers.specs.declared.list.Answer.TheVariants.{Listed, Program, Job, Short}
+use Rattle.answers.specs.ListNumbers.{Answer, lines_of as lines_in}
+use Rattle.answers.specs.declared.list.Word.{Word}
 use Rattle.answers.specs.declared.list.Word.TheVariants.{Whole, Cut, Stop21, Stop22, Stop23}
 
 -- demand 3: "01's walk ends as whole or cut"
+abbrev pub EndsWith : Word → Type 0
+EndsWith Whole = Unit {0}
+EndsWith Cut = Unit {0}
+EndsWith Stop21 = ⊥
+EndsWith Stop22 = ⊥
+EndsWith Stop23 = ⊥
+
 abbrev pub Ended : Answer → Type 0
-Ended (Listed Whole lines count) = Unit {0}
-Ended (Listed Cut lines count) = Unit {0}
-Ended (Listed Stop21 lines count) = ⊥
-Ended (Listed Stop22 lines count) = ⊥
-Ended (Listed Stop23 lines count) = ⊥
-Ended (Program number offset) = ⊥
-Ended (Job number offset) = ⊥
-Ended Short = ⊥
+Ended (Ok a) = EndsWith a.word
+Ended (Err r) = ⊥
 
 -- a listing, stopped or not: no refusal
 abbrev pub Answered : Answer → Type 0
-Answered (Listed word lines count) = Unit {0}
-Answered (Program number offset) = ⊥
-Answered (Job number offset) = ⊥
-Answered Short = ⊥
+Answered (Ok a) = Unit {0}
+Answered (Err r) = ⊥
 
 -- The answer r and the lines read back from the answer storage d are a listing of which demands 2 and 3 hold: p the program, j the job's class,
 -- n its steps, lim its W and T.

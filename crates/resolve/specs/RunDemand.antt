@@ -1,5 +1,5 @@
 -- Demand 2 for the value that stands in the answer storage.
-use Rattle.std.specs.Prelude.{ℕ, ◌≡◌, List}
+use Rattle.std.specs.Prelude.{ℕ, ◌≡◌, List, Ok, Err}
 use Rattle.expressions.specs.Expression.{Value}
 use Rattle.language.specs.Program.{Prog}
 use Rattle.semantics.specs.Embedding.{embed}
@@ -9,18 +9,12 @@ use Rattle.semantics.specs.Demand2.{NeverStuck, RunnerCorrect}
 use Rattle.semantics.specs.Stops.{RunnerStops}
 use Rattle.lines.specs.LineReading.{read_tree}
 use Rattle.resolve.specs.RunAnswer.{answer_of}
-use Rattle.run_answers.specs.RunNumbers.{length_of}
-use Rattle.run_answers.specs.declared.run.Answer.{Answer}
-use Rattle.run_answers.specs.declared.run.Answer.TheVariants.{Value as ValueOf, Over, NotWithin, Program, Job, Short}
+use Rattle.run_answers.specs.RunNumbers.{Answer, length_of}
 
 -- what a run came to: no refusal
 abbrev pub Answered : Answer → Type 0
-Answered (ValueOf s n) = Unit {0}
-Answered Over = Unit {0}
-Answered NotWithin = Unit {0}
-Answered (Program number offset) = ⊥
-Answered (Job number offset) = ⊥
-Answered Short = ⊥
+Answered (Ok r) = Unit {0}
+Answered (Err r) = ⊥
 
 -- The answer r and the value read back from the answer storage d are a run of which demand 2 holds: p the program, n the job's steps, is its inputs.
 pub record StoredRun (p : Prog) (n : ℕ) (is : List Value) (r : Answer) (d : List ℕ) : Type 0 where

@@ -9,13 +9,15 @@ ghost use Rattle.resolve.specs.ListAnswer.{list_left};
 ghost use Rattle.resolve.specs.ListDemand.{Answered, StoredListing};
 ghost use Rattle.resolve.specs.Twins.ListCells.{ended_as, came_to, read_left, listed_read, ListOut, list_texts};
 
-use answers::list::{Answer, Word, of_program, unstopped};
+use answers::list::{Answer, Listed, Word, unstopped};
 use initial::begin::main_body;
 use lent::clear::clear;
 use lent::room;
 use lent::room::short_for_lines;
 use linking::program::{link_program, program_end};
-use reading::both::{Both, read_both};
+use reading::both::Both;
+use reading::stored::Stored;
+use refusals::refusal::Refused;
 use turns::found::{Ending, Walked};
 use walk::job::walk_job;
 
@@ -36,24 +38,20 @@ fn ended_as(ending: Ending, cut: bool) -> Word
     }
 }
 
-fn came_to(w: Walked) -> Answer
+fn came_to(w: Walked) -> Listed
     ensures { result ≡ came_to w }
 {
-    let ending = w.ending;
-    let found = w.found;
-    let all = found.lines;
-    let word = ended_as(ending, found.cut);
-    Answer::Listed {
-        word: word,
-        lines: all.count,
-        count: found.count,
+    Listed {
+        word: ended_as(w.ending, w.found.cut),
+        lines: w.found.lines.count,
+        count: w.found.count,
     }
 }
 
 // What was read of both texts: an accepted program linked and walked from the job's start. The lines stand in `answer`, zeros behind them; a
 // refusal leaves it as it is.
 pub fn list_read(
-    both: Both,
+    both: Result<Both, Refused>,
     marks: &[u16],
     nums: &[u16],
     ends: &[u16],
@@ -64,54 +62,41 @@ pub fn list_read(
 ) -> Answer
     ensures { read_left result answer.new ≡ listed_read both marks.now nums.now ends.now heads.now jmarks.now jnums.now answer.old }
 {
-    match both {
-        Both::Program { number, offset } => of_program(number, offset),
-        Both::Job { number, offset } => Answer::Job { number, offset },
-        Both::Short => Answer::Short,
-        Both::Accepted {
-            count,
-            symbols: _,
-            parts,
-            numerals,
-        } => {
-            let mut code: [u16; 24582] = [0; 24582];
-            link_program(marks, nums, ends, heads, count, &mut code);
-            let tokens = program_end(ends, heads, count);
-            let body = main_body(marks, heads);
-            clear(answer);
-            let walked = walk_job(
-                &mut code, tokens, body, jmarks, jnums, parts, numerals, answer,
-            );
-            came_to(walked)
-        }
-    }
+    let both = both?;
+    let mut code: [u16; 24582] = [0; 24582];
+    link_program(marks, nums, ends, heads, both.count, &mut code);
+    let tokens = program_end(ends, heads, both.count);
+    let body = main_body(marks, heads);
+    clear(answer);
+    let walked = walk_job(
+        &mut code,
+        tokens,
+        body,
+        jmarks,
+        jnums,
+        both.parts,
+        both.numerals,
+        answer,
+    );
+    Ok(came_to(walked))
 }
 
 // The two texts, into storage that is long enough.
 fn list_texts(program: &[u8], job: &[u8], work: &mut [u16], answer: &mut [u16]) -> Answer
     ensures { ListOut result work.new answer.new (list_texts program.now job.now work.old answer.old) }
 {
-    let mut marks: [u16; 4097] = [0; 4097];
-    let mut nums: [u16; 4097] = [0; 4097];
-    let mut ends: [u16; 4097] = [0; 4097];
-    let mut heads: [u16; 64] = [0; 64];
-    let mut jmarks: [u16; 4097] = [0; 4097];
-    let mut jnums: [u16; 4097] = [0; 4097];
-    let mut symbols: [u16; 2048] = [0; 2048];
-    let both = read_both(
-        false,
-        program,
-        job,
-        &mut marks,
-        &mut nums,
-        &mut ends,
-        &mut heads,
-        &mut jmarks,
-        &mut jnums,
-        &mut symbols,
-        work,
-    );
-    list_read(both, &marks, &nums, &ends, &heads, &jmarks, &jnums, answer)
+    let mut texts = Stored::EMPTY;
+    let both = texts.read(false, program, job, work);
+    list_read(
+        both,
+        &texts.marks,
+        &texts.nums,
+        &texts.ends,
+        &texts.heads,
+        &texts.jmarks,
+        &texts.jnums,
+        answer,
+    )
 }
 
 // Walks the program from the job's start by figure 10 of 001. The lines stand in `answer`, zeros behind them; `work` is zero after the
@@ -120,7 +105,7 @@ pub fn list(program: &[u8], job: &[u8], work: &mut [u16], answer: &mut [u16]) ->
     ensures { (let w = list_left program.now job.now work.old answer.old in (result ≡ w.answer) × (work.new ≡ w.work) × (answer.new ≡ w.cells)) × ((s : SProg) (t : SJob) → reading lister program.now job.now ≡ accepted s t → Answered result → StoredListing (prog s) (class t) t.steps.num (limits t) result answer.new) }
 {
     if short_for_lines(work, answer) {
-        return Answer::Short;
+        return Err(Refused::Short);
     }
     list_texts(program, job, work, answer)
 }

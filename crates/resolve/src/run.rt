@@ -7,74 +7,48 @@ ghost use Rattle.language.specs.Reading.{accepted, reading};
 ghost use Rattle.semantics.specs.Answer.{inputs};
 ghost use Rattle.resolve.specs.RunAnswer.{run_left};
 ghost use Rattle.resolve.specs.RunDemand.{Answered, StoredRun};
-ghost use Rattle.resolve.specs.Twins.RunCells.{answer_ran, RunOut, run_texts};
+ghost use Rattle.resolve.specs.Twins.RunCells.{RunOut, run_texts};
 
 use forward::inputs::run_inputs;
 use lent::clear::clear;
 use lent::room;
 use lent::room::short_for_value;
 use linking::program::link_program;
-use reading::both::{Both, read_both};
+use reading::stored::Stored;
+use refusals::refusal::Refused;
 use run_answers::run::Answer;
-use running::ran::Ran;
 
 // The least lengths of the lent storages, in cells.
 pub const WORK: usize = room::WORK;
 
 pub const ANSWER: usize = room::VALUE;
 
-fn answer_of(ran: Ran) -> Answer
-    ensures { result ≡ answer_ran ran }
-{
-    match ran {
-        Ran::Value { steps, length } => Answer::Value { steps, length },
-        Ran::Over => Answer::Over,
-        Ran::NotWithin => Answer::NotWithin,
-    }
-}
-
 // The two texts, into storage that is long enough.
 fn run_texts(program: &[u8], job: &[u8], work: &mut [u16], answer: &mut [u16]) -> Answer
     ensures { RunOut result work.new answer.new (run_texts program.now job.now work.old answer.old) }
 {
-    let mut marks: [u16; 4097] = [0; 4097];
-    let mut nums: [u16; 4097] = [0; 4097];
-    let mut ends: [u16; 4097] = [0; 4097];
-    let mut heads: [u16; 64] = [0; 64];
-    let mut jmarks: [u16; 4097] = [0; 4097];
-    let mut jnums: [u16; 4097] = [0; 4097];
-    let mut symbols: [u16; 2048] = [0; 2048];
+    let mut texts = Stored::EMPTY;
     let mut code: [u16; 24582] = [0; 24582];
-    let both = read_both(
-        true,
-        program,
-        job,
-        &mut marks,
-        &mut nums,
-        &mut ends,
-        &mut heads,
-        &mut jmarks,
-        &mut jnums,
-        &mut symbols,
-        work,
+    let both = texts.read(true, program, job, work)?;
+    link_program(
+        &texts.marks,
+        &texts.nums,
+        &texts.ends,
+        &texts.heads,
+        both.count,
+        &mut code,
     );
-    match both {
-        Both::Program { number, offset } => Answer::Program { number, offset },
-        Both::Job { number, offset } => Answer::Job { number, offset },
-        Both::Short => Answer::Short,
-        Both::Accepted {
-            count,
-            symbols: _,
-            parts,
-            numerals,
-        } => {
-            link_program(&marks, &nums, &ends, &heads, count, &mut code);
-            clear(answer);
-            let steps = numerals.steps;
-            let ran = run_inputs(&marks, &heads, &jmarks, &jnums, parts, &code, steps, answer);
-            answer_of(ran)
-        }
-    }
+    clear(answer);
+    Ok(run_inputs(
+        &texts.marks,
+        &texts.heads,
+        &texts.jmarks,
+        &texts.jnums,
+        both.parts,
+        &code,
+        both.numerals.steps,
+        answer,
+    ))
 }
 
 // Evaluates main on the job's inputs by figure 4 of 001, in at most the job's steps. The value's cells stand in `answer`, zeros behind
@@ -83,7 +57,7 @@ pub fn run(program: &[u8], job: &[u8], work: &mut [u16], answer: &mut [u16]) -> 
     ensures { (let w = run_left program.now job.now work.old answer.old in (result ≡ w.answer) × (work.new ≡ w.work) × (answer.new ≡ w.cells)) × ((s : SProg) (t : SJob) → reading runner program.now job.now ≡ accepted s t → Answered result → StoredRun (prog s) t.steps.num (inputs t) result answer.new) }
 {
     if short_for_value(work, answer) {
-        return Answer::Short;
+        return Err(Refused::Short);
     }
     run_texts(program, job, work, answer)
 }

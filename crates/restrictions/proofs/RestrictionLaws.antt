@@ -11,6 +11,7 @@ use lib.Dec.{eqb, leb}
 use lib.ListN.{length, take, drop, get_or, set, length-append, length-take, length-drop, length-set, length-map, take-append-drop}
 use lib.Seq.{take-suc-set, drop-set-lt, take_at, drop_at}
 use borrow.Author.Tests.{lt-leb, leb-true}
+use Rattle.std.specs.Prelude.{Ok, Err}
 use Rattle.expressions.specs.Expression.{AtomicExp, sym, avar}
 use Rattle.expressions.specs.Substitution.{apply_atomic, subst_a}
 use Rattle.expressions.specs.Restriction.{NonEquality, Restriction, same_atomic, same_non_equality, stands, is_symbol, Kind, contradiction, redundant, kept, kind, keep_or_drop, simplify_after, simplify, add, apply_non_equality, subst_restriction}
@@ -20,7 +21,7 @@ use Rattle.sets.specs.Twins.Fill.{renamed}
 use Rattle.restrictions.specs.Twins.Restricting.{RestrictAnswer, restrict_answer, either_order, stands_cells, kind_cells, append_cells, add_kind, add_cells, simplify_kind, simplify_from, simplify_cells, bind_cells}
 use Rattle.restrictions.specs.declared.restriction.Kind.{Kind as CodedKind}
 use Rattle.restrictions.specs.declared.restriction.Kind.TheVariants.{Contradiction as Contradictory, Redundant, Kept as Keep}
-use Rattle.restrictions.specs.declared.restriction.Restricted.TheVariants.{Kept, Contradiction, Full}
+use Rattle.restrictions.specs.declared.failure.Failure.TheVariants.{Contradiction, Over}
 use Rattle.expressions.proofs.Combination.{simplify_append}
 use Rattle.sets.proofs.CellLaws.{code_test, restriction_cells_nodes}
 use Rattle.sets.proofs.FillLaws.{renamed_restriction}
@@ -106,17 +107,17 @@ kind_cells_means done r q f =
 -- What an answer and its storage say: the contradiction, or the restriction that stands at the front. Behind the first n
 -- non-equalities the storage q is as it was.
 abbrev pub Answers : ℕ → List ℕ → Option Restriction → RestrictAnswer → Type 0
-Answers n q none w = (w.answer ≡ Contradiction) × (drop (2 * n) w.cells ≡ drop (2 * n) q) × (length w.cells ≡ length q)
+Answers n q none w = (w.answer ≡ Err Contradiction) × (drop (2 * n) w.cells ≡ drop (2 * n) q) × (length w.cells ≡ length q)
 Answers n q (some out) w =
-    (w.answer ≡ Kept (length out)) × Front out w.cells × (length out ≤ n) × (drop (2 * n) w.cells ≡ drop (2 * n) q) × (length w.cells ≡ length q)
+    (w.answer ≡ Ok (length out)) × Front out w.cells × (length out ≤ n) × (drop (2 * n) w.cells ≡ drop (2 * n) q) × (length w.cells ≡ length q)
 
 -- .. and back: which answer says what
 module _ (n : ℕ) (q : List ℕ) (w : RestrictAnswer) where
-  pub answered_contradiction : (o : Option Restriction) → Answers n q o w → (w.answer ≡ Contradiction) ↔ (o ≡ none)
+  pub answered_contradiction : (o : Option Restriction) → Answers n q o w → (w.answer ≡ Err Contradiction) ↔ (o ≡ none)
   answered_contradiction none a = ((λ e. refl), λ e. a.0)
   answered_contradiction (some out) a = ((λ e. cc), λ e. cc)
 
-  pub answered_kept : (o : Option Restriction) → Answers n q o w → (k : ℕ) → w.answer ≡ Kept k → (out : Restriction) × (o ≡ some out) × (k ≡ length out)
+  pub answered_kept : (o : Option Restriction) → Answers n q o w → (k : ℕ) → w.answer ≡ Ok k → (out : Restriction) × (o ≡ some out) × (k ≡ length out)
   answered_kept none a k e = let z : ◌≡◌ {A = ℕ} 0 1 = cc in absurd (omega arith)
   answered_kept (some out) a k e = (out, refl, cc)
 
@@ -199,23 +200,23 @@ add_cells_means qs r q e f room = rw (kind_cells_means qs r q f, simplify_append
         let y = atomic_code r.right in
         let m : length (qs ++ (r ∷ [])) ≡ length qs + 1 = length-append qs (r ∷ []) in
         rw (lt-leb (length q / 2) (length qs) (omega arith)) (
-          ap Kept (inv m),
+          ap Ok (inv m),
           append_front qs r q room f,
           omega arith,
           append_behind q (length qs) x y room (length qs + 1) (omega arith),
           append_length q (length qs) x y room,
         )
 
--- "Full" is said of a storage without room only
-pub add_cells_full : (n x y : ℕ) (q : List ℕ) → (add_cells n x y q).answer ≡ Full → length q < 2 * n + 2
+-- "Over" is said of a storage without room only
+pub add_cells_full : (n x y : ℕ) (q : List ℕ) → (add_cells n x y q).answer ≡ Err Over → length q < 2 * n + 2
 add_cells_full n x y q e = pick (kind_cells n x y q) e
   where
-    pick : (k : CodedKind) → (add_kind n x y q k).answer ≡ Full → length q < 2 * n + 2
+    pick : (k : CodedKind) → (add_kind n x y q k).answer ≡ Err Over → length q < 2 * n + 2
     pick Contradictory f = let z : ◌≡◌ {A = ℕ} 0 1 = cc in absurd (omega arith)
     pick Redundant f = let z : ◌≡◌ {A = ℕ} 0 1 = cc in absurd (omega arith)
     pick Keep f = room (leb (length q / 2) n) refl f
       where
-        room : (t : Bool) → leb (length q / 2) n ≡ t → (cond t (restrict_answer Full q) (restrict_answer (Kept (n + 1)) (append_cells n x y q))).answer ≡ Full → length q < 2 * n + 2
+        room : (t : Bool) → leb (length q / 2) n ≡ t → (cond t (restrict_answer (Err Over) q) (restrict_answer (Ok (n + 1)) (append_cells n x y q))).answer ≡ Err Over → length q < 2 * n + 2
         room true l g = omega (arith, leb-true (length q / 2) n l)
         room false l g = let z : ◌≡◌ {A = ℕ} 0 1 = cc in absurd (omega arith)
 
@@ -260,6 +261,6 @@ module _ (m : ℕ) (x : AtomicExp) (qs : Restriction) (q : List ℕ) (f : Front 
       rw (e, n, f) (pick (any_cell (avar_code m) (restriction_cells qs)) refl)
     where
       pick : (t : Bool) → any_cell (avar_code m) (restriction_cells qs) ≡ t → Answers (length qs) q (subst_restriction (subst_a m x) qs)
-          (cond t (simplify_cells (length qs) (renamed (2 * length qs) (avar_code m) (atomic_code x) q)) (restrict_answer (Kept (length qs)) q))
+          (cond t (simplify_cells (length qs) (renamed (2 * length qs) (avar_code m) (atomic_code x) q)) (restrict_answer (Ok (length qs)) q))
       pick true e = renamed_means
       pick false e = rw (stands_nowhere m x qs e, simple) (refl, f, omega arith, refl, refl)

@@ -10,8 +10,8 @@ use lib.Dec.{eqb}
 use lib.ListN.{length, drop, get_or, length-drop}
 use lib.Seq.{drop-cons}
 use borrow.Author.Tests.{eqb-true, eq-eqb, ne_eqb}
+use Rattle.std.specs.Prelude.{Ok}
 use Rattle.restrictions.specs.Twins.Restricting.{restrict_answer, either_order, stands_cells, kind_cells, simplify_kind, simplify_from}
-use Rattle.restrictions.specs.declared.restriction.Restricted.TheVariants.{Kept}
 
 -- the two cells of the i-th non-equality, and what is behind them
 pub two_cells : (q : List ℕ) (i : ℕ) → i < length q / 2 → drop (2 * i) q ≡ get_or q (2 * i) 0 ∷ get_or q (2 * i + 1) 0 ∷ drop (2 * (i + 1)) q
@@ -72,6 +72,6 @@ module _ (count i kept : ℕ) (q : List ℕ) where
   unfolding simplify_from
   simplify_turn h = let l : count - i ≡ suc (count - (i + 1)) = omega arith in rw l
 
-  pub simplify_end : count ≤ i → simplify_from (count - i) i kept q ≡ restrict_answer (Kept kept) q
+  pub simplify_end : count ≤ i → simplify_from (count - i) i kept q ≡ restrict_answer (Ok kept) q
   unfolding simplify_from
   simplify_end h = let l : count - i ≡ 0 = omega arith in rw l

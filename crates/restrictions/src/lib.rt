@@ -2,4 +2,5 @@
 // specs/ for slices of any content; proofs/ says what that is where the cells hold a restriction.
 #![tactic(auto)]
 
+pub mod failure;
 pub mod restriction;

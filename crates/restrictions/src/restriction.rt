@@ -2,6 +2,7 @@
 ghost use Rattle.std.specs.Prelude.{◌≡◌};
 ghost use Rattle.restrictions.specs.Twins.Restricting.{stands_cells, kind_cells, add_cells, simplify_cells, bind_cells};
 
+use crate::failure::Failure;
 use cells::cell;
 use sets::{fill, tree};
 
@@ -13,34 +14,20 @@ pub enum Kind {
     Kept,
 }
 
-// Kept: the non-equalities there are now. Full: the storage has no room for one more.
-#[derive(Drop)]
-pub enum Restricted {
-    Kept(usize),
-    Contradiction,
-    Full,
-}
-
 // Whether x # y stands among the first n non-equalities, in either order of sides.
 fn stands(q: &[u16], n: usize, x: u16, y: u16) -> bool
     ensures { result ≡ stands_cells n x y q.now }
 {
-    let count = cell::least(n, q.len() / 2);
-    let mut i: usize = 0;
-    while i < count {
+    let count = n.min(q.len() / 2);
+    for i in 0..count {
         let a = q[2 * i];
         let b = q[2 * i + 1];
-        if a == x {
-            if b == y {
-                return true;
-            }
+        if a == x && b == y {
+            return true;
         }
-        if a == y {
-            if b == x {
-                return true;
-            }
+        if a == y && b == x {
+            return true;
         }
-        i += 1;
     }
     false
 }
@@ -52,51 +39,41 @@ pub fn kind_of(q: &[u16], n: usize, x: u16, y: u16) -> Kind
     if x == y {
         return Kind::Contradiction;
     }
-    if x % 4 == 1 {
-        if y % 4 == 1 {
-            return Kind::Redundant;
-        }
-    }
-    if stands(q, n, x, y) {
+    if x % 4 == 1 && y % 4 == 1 || stands(q, n, x, y) {
         return Kind::Redundant;
     }
     Kind::Kept
 }
 
-// Adds x # y behind n simplified non-equalities.
-pub fn add(q: &mut [u16], n: usize, x: u16, y: u16) -> Restricted
+// Adds x # y behind n simplified non-equalities: how many there are then. Over: the storage has no room for one more.
+pub fn add(q: &mut [u16], n: usize, x: u16, y: u16) -> Result<usize, Failure>
     ensures { let w = add_cells n x y q.old in (result ≡ w.answer) × (q.new ≡ w.cells) }
 {
-    let k = kind_of(q, n, x, y);
-    match k {
-        Kind::Contradiction => Restricted::Contradiction,
-        Kind::Redundant => Restricted::Kept(n),
+    match kind_of(q, n, x, y) {
+        Kind::Contradiction => Err(Failure::Contradiction),
+        Kind::Redundant => Ok(n),
         Kind::Kept => {
             if q.len() / 2 <= n {
-                return Restricted::Full;
+                return Err(Failure::Over);
             }
             cell::put(q, 2 * n, x);
             cell::put(q, 2 * n + 1, y);
-            Restricted::Kept(n + 1)
+            Ok(n + 1)
         }
     }
 }
 
 // Simplifies the first n non-equalities in place.
-pub fn simplify(q: &mut [u16], n: usize) -> Restricted
+pub fn simplify(q: &mut [u16], n: usize) -> Result<usize, Failure>
     ensures { let w = simplify_cells n q.old in (result ≡ w.answer) × (q.new ≡ w.cells) }
 {
-    let count = cell::least(n, q.len() / 2);
+    let count = n.min(q.len() / 2);
     let mut kept: usize = 0;
-    let mut i: usize = 0;
-    while i < count {
+    for i in 0..count {
         let x = q[2 * i];
         let y = q[2 * i + 1];
-        let k = kind_of(q, kept, x, y);
-        match k {
-            Kind::Contradiction => {
-                return Restricted::Contradiction;
-            }
+        match kind_of(q, kept, x, y) {
+            Kind::Contradiction => return Err(Failure::Contradiction),
             Kind::Redundant => {}
             Kind::Kept => {
                 cell::put(q, 2 * kept, x);
@@ -104,19 +81,18 @@ pub fn simplify(q: &mut [u16], n: usize) -> Restricted
                 kept += 1;
             }
         }
-        i += 1;
     }
-    Restricted::Kept(kept)
+    Ok(kept)
 }
 
 // Binds the variable x to y in the first n non-equalities, which are simplified, and simplifies them again where x stands in one.
-pub fn bind(q: &mut [u16], n: usize, x: u16, y: u16) -> Restricted
+pub fn bind(q: &mut [u16], n: usize, x: u16, y: u16) -> Result<usize, Failure>
     ensures { let w = bind_cells n x y q.old in (result ≡ w.answer) × (q.new ≡ w.cells) }
 {
-    let count = cell::least(n, q.len() / 2);
+    let count = n.min(q.len() / 2);
     if tree::stands_in(q, 0, 2 * count, x) {
         fill::rename(q, 2 * count, x, y);
         return simplify(q, count);
     }
-    Restricted::Kept(count)
+    Ok(count)
 }

@@ -1,36 +1,17 @@
-// What a run comes to, and what is decided of it by value.
-ghost use Rattle.std.specs.Prelude.{◌≡◌, Bool};
-ghost use Rattle.running.specs.Twins.Answers.{is_within, ran_answer, ran_by, settled_ran};
+// What is decided by value of what a run comes to.
+ghost use Rattle.std.specs.Prelude.{◌≡◌};
+ghost use Rattle.running.specs.Twins.Answers.{ran_answer, ran_by, settled_ran};
 
 use lent::clear::clear;
-use sets::fill::Filled;
+use run_answers::run::Ran;
 
-#[derive(Drop)]
-pub enum Ran {
-    // The steps, and how many cells the value has.
-    Value { steps: usize, length: usize },
-    // 21
-    Over,
-    NotWithin,
-}
-
-// "not within N": whether another transition may be made behind k of them.
-pub fn is_within(k: usize, steps: usize) -> bool
-    ensures { result ≡ is_within k steps }
+// An end, so many steps from the start, by how many cells of its output were put; None: they were over.
+pub fn ran_by(steps: usize, put: Option<usize>) -> Ran
+    ensures { result ≡ ran_by steps put }
 {
-    k < steps
-}
-
-// An end, so many steps from the start, by what was left of its output.
-pub fn ran_by(steps: usize, w: Filled) -> Ran
-    ensures { result ≡ ran_by steps w }
-{
-    match w {
-        Filled::Done(n) => Ran::Value {
-            steps: steps,
-            length: n,
-        },
-        Filled::Over => Ran::Over,
+    match put {
+        Some(length) => Ran::Value { steps, length },
+        None => Ran::Over,
     }
 }
 
@@ -38,12 +19,8 @@ pub fn ran_by(steps: usize, w: Filled) -> Ran
 pub fn settle(ran: Ran, answer: &mut [u16]) -> Ran
     ensures { ran_answer result answer.new ≡ settled_ran ran answer.old }
 {
-    match ran {
-        Ran::Value { steps, length } => Ran::Value { steps, length },
-        Ran::Over => {
-            clear(answer);
-            Ran::Over
-        }
-        Ran::NotWithin => Ran::NotWithin,
+    if let Ran::Over = ran {
+        clear(answer);
     }
+    ran
 }

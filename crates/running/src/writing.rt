@@ -1,21 +1,20 @@
-// Cells of a value at a place of the answer storage (specs/twins/Writing.antt).
+// Cells of a value at a place of the answer storage (specs/Twins/Writing.antt).
 ghost use Rattle.std.specs.Prelude.{◌≡◌};
 ghost use Rattle.sets.specs.Twins.Fill.{fill_answer};
 ghost use Rattle.running.specs.Twins.Writing.{cell_put, range_put};
 
 use cells::cell;
-use sets::fill::Filled;
 use sets::tree;
 
-// A cell at `at`, where there are fewer than `limit`.
-pub fn put_cell(x: u16, answer: &mut [u16], at: usize, limit: usize) -> Filled
+// A cell at `at`, where there are fewer than `limit`. How many there are then.
+pub fn put_cell(x: u16, answer: &mut [u16], at: usize, limit: usize) -> Option<usize>
     ensures { fill_answer result answer.new ≡ cell_put x at limit answer.old }
 {
     if limit <= at {
-        return Filled::Over;
+        return None;
     }
     cell::put(answer, at, x);
-    Filled::Done(at + 1)
+    Some(at + 1)
 }
 
 // The cells of a range at `at`, where there are no more than `limit` then.
@@ -26,16 +25,13 @@ pub fn put_range(
     answer: &mut [u16],
     at: usize,
     limit: usize,
-) -> Filled
+) -> Option<usize>
     ensures { fill_answer result answer.new ≡ range_put from to at limit heap.now answer.old }
 {
-    let n = to - cell::least(from, to);
-    if limit < at {
-        return Filled::Over;
-    }
-    if limit - at < n {
-        return Filled::Over;
+    let n = to.saturating_sub(from);
+    if limit < at || limit - at < n {
+        return None;
     }
     tree::copy(heap, from, n, answer, at);
-    Filled::Done(at + n)
+    Some(at + n)
 }

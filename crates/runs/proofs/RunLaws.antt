@@ -8,19 +8,18 @@ use native.Mathlib.Decide.{dec_le}
 use native.Mathlib.Nat.{zero-mul, suc-mul}
 use native.Mathlib.Numerals.{add-one}
 use lib.Dec.{eqb, ltb}
-use lib.ListN.{length, drop, get_or, set, length-append}
-use lib.Seq.{sets, drop-cons, get_or-set_other}
+use lib.ListN.{length, take, drop, get_or, set, length-append}
+use lib.Seq.{sets, sets-eq, paste, take_at, drop-cons, get_or-set_other}
 use borrow.Author.Tests.{le-leb, lt-leb, lt-ltb, le-ltb, ltb-true, ltb-false, eq-eqb, ne_eqb, eqb-true, eqb-false}
+use Rattle.std.specs.Prelude.{Option, Some, None}
 use Rattle.sets.specs.Twins.Copying.{any_cell}
 use Rattle.sets.specs.Twins.Fill.{FillAnswer, fill_answer, spread}
-use Rattle.sets.specs.declared.fill.Filled.{Filled}
-use Rattle.sets.specs.declared.fill.Filled.TheVariants.{Done, Over}
 use Rattle.runs.specs.declared.run.Seen.{Seen}
 use Rattle.codes.specs.Twins.Codes.{met_of, variable_met, one_if, renamed_cell}
 use Rattle.codes.specs.Twins.Outcomes.{unmoved}
 use Rattle.codes.specs.declared.outcome.Replaced.{Replaced}
 use Rattle.codes.specs.declared.outcome.Replaced.TheVariants.{Over as ReplacedOver}
-use Rattle.runs.specs.Twins.Runs.{cells_at, run, count_in, seen_in, first_in, lacks_next, passed_at, any_variable, spread_size, written, appended, appended_filled, moved_by, replace_answer, moved_answer, replaced}
+use Rattle.runs.specs.Twins.Runs.{cells_at, run, count_in, seen_in, first_in, further, lacks_next, any_variable, spread_size, written, appended, appended_filled, moved_by, replace_answer, moved_answer, replaced}
 
 -- two heaps are the same below a place
 pub record Below (used : ℕ) (h g : List ℕ) : Type 0 where
@@ -82,11 +81,11 @@ run_below {used} {h} {g} b from to l = pick (to - from) refl
     pick (suc n) e = cells_below b (to - from) from (omega arith)
 
 module _ (used n : ℕ) (w h : List ℕ) where
-  pub written_over : 65535 < used + n → written used n w h ≡ fill_answer Over h
+  pub written_over : 65535 < used + n → written used n w h ≡ fill_answer None h
   unfolding written
   written_over g = rw (lt-leb (used + n) 65535 g)
 
-  pub written_done : used + n ≤ 65535 → written used n w h ≡ fill_answer (Done (used + n)) (sets h used w)
+  pub written_done : used + n ≤ 65535 → written used n w h ≡ fill_answer (Some (used + n)) (sets h used w)
   unfolding written
   written_done g = rw (le-leb (used + n) 65535 g)
 
@@ -135,7 +134,17 @@ size_is x v (c ∷ s) = length-append (cond (eqb c x) v (c ∷ [])) (spread x v 
     pick true = refl
     pick false = refl
 
--- turns of `stands_below`: x was met before, or stands in what is left
+-- one cell further in a list
+drop_next : (i : ℕ) (s : List ℕ) → i < length s → drop i s ≡ get_or s i 0 ∷ drop (i + 1) s
+drop_next i s l = drop-cons s i 0 l ∙ ap (λ (k : ℕ). get_or s i 0 ∷ drop k s) (inv (add-one i))
+
+drop_all : (i : ℕ) (s : List ℕ) → length s ≤ i → drop i s ≡ []
+drop_all zero [] l = refl
+drop_all zero (c ∷ s) l = absurd (omega arith)
+drop_all (suc i) [] l = refl
+drop_all (suc i) (c ∷ s) l = drop_all i s (omega arith)
+
+-- turns of `stands`: x was met before, or stands in what is left
 abbrev pub met_or : ℕ → Bool → Bool
 met_or n b = cond (eqb n 1) true b
 
@@ -147,24 +156,24 @@ met_none : (t : Bool) → cond t true false ≡ t
 met_none true = refl
 met_none false = refl
 
-module _ (x i end : ℕ) (g : List ℕ) (n : ℕ) where
-  pub stands_next : i < end → met_or n (any_cell x (run i end g)) ≡ met_or (met_of n (get_or g i 0) x) (any_cell x (run (i + 1) end g))
+module _ (x i : ℕ) (s : List ℕ) (n : ℕ) where
+  pub stands_next : i < length s → met_or n (any_cell x (drop i s)) ≡ met_or (met_of n (get_or s i 0) x) (any_cell x (drop (i + 1) s))
   unfolding any_cell
-  stands_next l = rw (run_cons i end g l) (pick (eqb (get_or g i 0) x))
+  stands_next l = rw (drop_next i s l) (pick (eqb (get_or s i 0) x))
     where
-      pick : (b : Bool) → met_or n (cond b true (any_cell x (run (i + 1) end g))) ≡ met_or (cond b 1 n) (any_cell x (run (i + 1) end g))
+      pick : (b : Bool) → met_or n (cond b true (any_cell x (drop (i + 1) s))) ≡ met_or (cond b 1 n) (any_cell x (drop (i + 1) s))
       pick true = met_all (eqb n 1)
       pick false = refl
 
-  pub stands_done : end ≤ i → met_or n (any_cell x (run i end g)) ≡ eqb n 1
+  pub stands_done : length s ≤ i → met_or n (any_cell x (drop i s)) ≡ eqb n 1
   unfolding any_cell
-  stands_done l = rw (run_end i end g l) (met_none (eqb n 1))
+  stands_done l = rw (drop_all i s l) (met_none (eqb n 1))
 
 pub append_start : (used from end : ℕ) (h : List ℕ) → sets h used (run from end h) ≡ sets h (used + 0) (run (from + 0) end h)
 append_start used from end h = ap₂ (λ (a b : ℕ). sets h a (run b end h)) (omega arith) (omega arith)
 
 pub pair_done : (used a b : ℕ) (h : List ℕ) → used + 3 ≤ 65535 →
-    fill_answer (Done (used + 3)) (set (set (set h used 4) (used + 1) a) (used + 2) b) ≡ written used 3 (4 ∷ (a ∷ (b ∷ []))) h
+    fill_answer (Some (used + 3)) (set (set (set h used 4) (used + 1) a) (used + 2) b) ≡ written used 3 (4 ∷ (a ∷ (b ∷ []))) h
 pair_done used a b h l =
     let e : used + 1 ≡ suc used = omega arith in
     let f : used + 2 ≡ suc (suc used) = omega arith in
@@ -179,20 +188,20 @@ module _ (from to x vfrom vto used : ℕ) (h : List ℕ) (end vend size all : �
   counted : spread_size x (vend - vfrom) (run from end h) ≡ all
   counted = ap (λ (s : ℕ). spread_size x s (run from end h)) (inv is-size) ∙ inv is_all
 
-  pub filled_over : 65535 < used + all → appended_filled from to x vfrom vto used h ≡ fill_answer Over h
+  pub filled_over : 65535 < used + all → appended_filled from to x vfrom vto used h ≡ fill_answer None h
   filled_over l = rw (← is-end, ← is-vend, counted) (written_over used all (spread x (run vfrom vend h) (run from end h)) h l)
 
-  pub filled_done : used + all ≤ 65535 → appended_filled from to x vfrom vto used h ≡ fill_answer (Done (used + all)) (sets h used (spread x (run vfrom vend h) (run from end h)))
+  pub filled_done : used + all ≤ 65535 → appended_filled from to x vfrom vto used h ≡ fill_answer (Some (used + all)) (sets h used (spread x (run vfrom vend h) (run from end h)))
   filled_done l = rw (← is-end, ← is-vend, counted) (written_done used all (spread x (run vfrom vend h) (run from end h)) h l)
 
 module _ {used : ℕ} {h g : List ℕ} (same : Below used h g) (x vfrom vend i end k : ℕ) (more : i < end) (in-used : end ≤ used) where
   module _ (size : ℕ) (is-size : size ≡ vend - vfrom) (v-used : vend ≤ used) (at : used ≤ k) (fits : k + size ≤ 65535)
-      (r : Filled) (h' : List ℕ) (made : fill_answer r h' ≡ appended vfrom vend k h) where
+      (r : Option ℕ) (h' : List ℕ) (made : fill_answer r h' ≡ appended vfrom vend k h) where
     pub turn_made : h' ≡ sets h k (run vfrom vend g)
     turn_made =
         let m : min vend k ≡ vend = omega arith in
         let b : run vfrom vend h ≡ run vfrom vend g = run_below same vfrom vend v-used in
-        let d : appended vfrom vend k h ≡ fill_answer (Done (k + (vend - vfrom))) (sets h k (run vfrom vend h)) = rw m (written_done k (vend - vfrom) (run vfrom vend h) h (omega arith)) in
+        let d : appended vfrom vend k h ≡ fill_answer (Some (k + (vend - vfrom))) (sets h k (run vfrom vend h)) = rw m (written_done k (vend - vfrom) (run vfrom vend h) h (omega arith)) in
         ap (λ (w : FillAnswer). w.cells) (made ∙ d) ∙ ap (sets h k) b
 
     pub turn_below : Below used h' g
@@ -204,18 +213,18 @@ module _ {used : ℕ} {h g : List ℕ} (same : Below used h g) (x vfrom vend i e
         rw (turn_made, n, sets_append h k (run vfrom vend g) (spread x (run vfrom vend g) (run (i + 1) end g)), spread_here x (run vfrom vend g) i end g more (inv (same.same i (omega arith)) ∙ p))
 
 -- turns of `look_through`
-module _ (x i end : ℕ) (g : List ℕ) where
-  pub count_next : (n : ℕ) → i < end → n + count_in x (run i end g) ≡ n + one_if (get_or g i 0) x + count_in x (run (i + 1) end g)
+module _ (x i : ℕ) (s : List ℕ) where
+  pub count_next : (n : ℕ) → i < length s → n + count_in x (drop i s) ≡ n + one_if (get_or s i 0) x + count_in x (drop (i + 1) s)
   unfolding count_in
-  count_next n l = rw (run_cons i end g l) (pick (eqb (get_or g i 0) x))
+  count_next n l = rw (drop_next i s l) (pick (eqb (get_or s i 0) x))
     where
-      pick : (b : Bool) → n + (cond b 1 0 + count_in x (run (i + 1) end g)) ≡ n + cond b 1 0 + count_in x (run (i + 1) end g)
+      pick : (b : Bool) → n + (cond b 1 0 + count_in x (drop (i + 1) s)) ≡ n + cond b 1 0 + count_in x (drop (i + 1) s)
       pick true = omega arith
       pick false = omega arith
 
-  pub count_end : end ≤ i → count_in x (run i end g) ≡ 0
+  pub count_end : length s ≤ i → count_in x (drop i s) ≡ 0
   unfolding count_in
-  count_end l = rw (run_end i end g l)
+  count_end l = rw (drop_all i s l)
 
 pub one_least : (c x : ℕ) → one_if c x ≤ 1
 one_least c x = pick (eqb c x)
@@ -225,17 +234,17 @@ one_least c x = pick (eqb c x)
     pick false = omega arith
 
 -- turns of `look_through`: a variable was met before, or stands in what is left
-pub variable_next : (n i end : ℕ) (g : List ℕ) → i < end → met_or n (any_variable (run i end g)) ≡ met_or (variable_met n (get_or g i 0)) (any_variable (run (i + 1) end g))
+pub variable_next : (n i : ℕ) (s : List ℕ) → i < length s → met_or n (any_variable (drop i s)) ≡ met_or (variable_met n (get_or s i 0)) (any_variable (drop (i + 1) s))
 unfolding any_variable
-variable_next n i end g l = rw (run_cons i end g l) (pick (ltb (get_or g i 0 % 4) 2))
+variable_next n i s l = rw (drop_next i s l) (pick (ltb (get_or s i 0 % 4) 2))
   where
-    pick : (b : Bool) → met_or n (cond b (any_variable (run (i + 1) end g)) true) ≡ met_or (cond b n 1) (any_variable (run (i + 1) end g))
+    pick : (b : Bool) → met_or n (cond b (any_variable (drop (i + 1) s)) true) ≡ met_or (cond b n 1) (any_variable (drop (i + 1) s))
     pick true = refl
     pick false = met_all (eqb n 1)
 
-pub variable_done : (n i end : ℕ) (g : List ℕ) → end ≤ i → met_or n (any_variable (run i end g)) ≡ eqb n 1
+pub variable_done : (n i : ℕ) (s : List ℕ) → length s ≤ i → met_or n (any_variable (drop i s)) ≡ eqb n 1
 unfolding any_variable
-variable_done n i end g l = rw (run_end i end g l) (met_none (eqb n 1))
+variable_done n i s l = rw (drop_all i s l) (met_none (eqb n 1))
 
 -- where no variable stands, a code of one does not
 pub none_stands : (x : ℕ) (s : List ℕ) → 2 ≤ x % 4 → any_variable s ≡ false → any_cell x s ≡ false
@@ -284,7 +293,7 @@ module _ (from to x vfrom vto used : ℕ) (h : List ℕ) where
       pub replaced_unmoved : s.count ≡ 0 → (r : Replaced) → r ≡ unmoved s.variables → replace_answer r h ≡ replaced from to x vfrom vto used h
       replaced_unmoved e r is = ap (λ (q : Replaced). replace_answer q h) (is ∙ ap unmoved (inv variables_are)) ∙ inv (replaced_lacks (count_is ∙ e))
 
-      pub replaced_moved : (s.count ≡ 0 → ⊥) → (w : Filled) (g : List ℕ) → fill_answer w g ≡ appended_filled from end x vfrom vto used h → (r : Replaced) → r ≡ moved_by w →
+      pub replaced_moved : (s.count ≡ 0 → ⊥) → (w : Option ℕ) (g : List ℕ) → fill_answer w g ≡ appended_filled from end x vfrom vto used h → (r : Replaced) → r ≡ moved_by w →
           replace_answer r g ≡ replaced from to x vfrom vto used h
       replaced_moved e w g made r is =
           let m : min end used ≡ min to used = omega arith in
@@ -319,14 +328,14 @@ size_count x size (c ∷ s) = pick (eqb c x) (size_count x size s)
     pick true e = let m = suc-mul (count_in x s) size in let n : 1 + count_in x s ≡ suc (count_in x s) = omega arith in rw n (omega (arith, m, e))
     pick false e = let n : 0 + count_in x s ≡ count_in x s = omega arith in rw n (omega (arith, e))
 
-module _ (x size from to : ℕ) (h : List ℕ) (n : ℕ) (is : n ≡ count_in x (run from to h)) where
-  pub count_fits : n ≤ to - from
-  count_fits = omega (arith, is, count_least x (run from to h), length_cells_at (to - from) from h)
+module _ (x size : ℕ) (s : List ℕ) (n : ℕ) (is : n ≡ count_in x s) where
+  pub count_fits : n ≤ length s
+  count_fits = omega (arith, is, count_least x s)
 
-  pub size_by_count : to - from + n * size - n ≡ spread_size x size (run from to h)
+  pub size_by_count : length s + n * size - n ≡ spread_size x size s
   size_by_count =
-      let m : n * size ≡ count_in x (run from to h) * size = ap (λ (k : ℕ). k * size) is in
-      omega (arith, is, m, size_count x size (run from to h), length_cells_at (to - from) from h)
+      let m : n * size ≡ count_in x s * size = ap (λ (k : ℕ). k * size) is in
+      omega (arith, is, m, size_count x size s)
 
 pub product_least : (n size : ℕ) → size ≤ 65535 → n * size ≤ 65535 * n
 product_least zero size l = omega (arith, zero-mul size)
@@ -341,91 +350,124 @@ size_one x (c ∷ s) = pick (eqb c x) (size_one x s)
     pick true again = omega (arith, again)
     pick false again = omega (arith, again)
 
--- turns of `find`: cells in which x does not stand
-pub first_behind : (x m n i : ℕ) (h : List ℕ) → any_cell x (cells_at m i h) ≡ false → first_in x (m + n) i h ≡ first_in x n (i + m) h
-unfolding any_cell cells_at first_in
-first_behind x zero n i h e = let k : i + 0 ≡ i = omega arith in let l : 0 + n ≡ n = omega arith in rw (k, l)
-first_behind x (suc m) n i h e = let k : i + suc m ≡ i + 1 + m = omega arith in let l : suc m + n ≡ suc (m + n) = omega arith in rw (k, l) (pick (eqb (get_or h i 0) x) (first_behind x m n (i + 1) h) e)
-  where
-    pick : (b : Bool) → (any_cell x (cells_at m (i + 1) h) ≡ false → first_in x (m + n) (i + 1) h ≡ first_in x n (i + 1 + m) h) →
-        cond b true (any_cell x (cells_at m (i + 1) h)) ≡ false → cond b i (first_in x (m + n) (i + 1) h) ≡ first_in x n (i + 1 + m) h
-    pick true again f = let z : ◌≡◌ {A = ℕ} 0 1 = cc in absurd (omega arith)
-    pick false again f = again f
+-- turns of `find`: a place in what is left, in the whole
+abbrev pub ahead : ℕ → Option ℕ → Option ℕ
+ahead i (Some n) = Some (i + n)
+ahead i None = None
 
-pub lacks_next_lem : (n x i to : ℕ) (h : List ℕ) → i ≤ to → lacks_next n i to x h ≡ true → (i + n ≤ to) × (first_in x (to - i) i h ≡ first_in x (to - (i + n)) (i + n) h)
-lacks_next_lem n x i to h in-run e = pick (ltb (to - i) n) (any_cell x (run i (i + n) h)) refl refl e
+pub ahead_none : (o : Option ℕ) → o ≡ ahead 0 o
+ahead_none (Some n) = ap Some (omega arith)
+ahead_none None = refl
+
+further_ahead : (i : ℕ) (o : Option ℕ) → ahead i (further o) ≡ ahead (i + 1) o
+further_ahead i (Some n) = ap Some (omega arith)
+further_ahead i None = refl
+
+module _ (x i : ℕ) (s : List ℕ) where
+  pub first_here : i < length s → get_or s i 0 ≡ x → ahead i (first_in x (drop i s)) ≡ Some i
+  unfolding first_in
+  first_here l e = rw (drop_next i s l, eq-eqb (get_or s i 0) x e) (ap Some (omega arith))
+
+  pub first_later : i < length s → (get_or s i 0 ≡ x → ⊥) → ahead i (first_in x (drop i s)) ≡ ahead (i + 1) (first_in x (drop (i + 1) s))
+  unfolding first_in
+  first_later l e = rw (drop_next i s l, ne_eqb (get_or s i 0) x e) (further_ahead i (first_in x (drop (i + 1) s)))
+
+  pub first_none : length s ≤ i → ahead i (first_in x (drop i s)) ≡ None
+  unfolding first_in
+  first_none l = rw (drop_all i s l)
+
+-- cells in which x does not stand
+first_behind : (x m i : ℕ) (s : List ℕ) → i + m ≤ length s → any_cell x (take m (drop i s)) ≡ false →
+    ahead i (first_in x (drop i s)) ≡ ahead (i + m) (first_in x (drop (i + m) s))
+unfolding any_cell
+first_behind x zero i s l e = let k : i + 0 ≡ i = omega arith in rw k
+first_behind x (suc m) i s l e =
+    let k : i + suc m ≡ i + 1 + m = omega arith in
+    let n : any_cell x (take (suc m) (drop i s)) ≡ any_cell x (get_or s i 0 ∷ take m (drop (i + 1) s)) = rw (drop_next i s (omega arith)) in
+    pick (eqb (get_or s i 0) x) refl (inv n ∙ e) (first_behind x m (i + 1) s (omega arith)) ∙ ap (λ (j : ℕ). ahead j (first_in x (drop j s))) (inv k)
   where
-    pick : (a b : Bool) → ltb (to - i) n ≡ a → any_cell x (run i (i + n) h) ≡ b → cond a false (not b) ≡ true → (i + n ≤ to) × (first_in x (to - i) i h ≡ first_in x (to - (i + n)) (i + n) h)
+    pick : (b : Bool) → eqb (get_or s i 0) x ≡ b → cond b true (any_cell x (take m (drop (i + 1) s))) ≡ false → (any_cell x (take m (drop (i + 1) s)) ≡ false → ahead (i + 1) (first_in x (drop (i + 1) s)) ≡ ahead (i + 1 + m) (first_in x (drop (i + 1 + m) s))) →
+        ahead i (first_in x (drop i s)) ≡ ahead (i + 1 + m) (first_in x (drop (i + 1 + m) s))
+    pick true u f again = let z : ◌≡◌ {A = ℕ} 0 1 = cc in absurd (omega arith)
+    pick false u f again = first_later x i s (omega arith) (eqb-false (get_or s i 0) x u) ∙ again f
+
+pub passes : (n x i : ℕ) (s : List ℕ) → i ≤ length s → lacks_next n i x s ≡ true →
+    (i + n ≤ length s) × (ahead i (first_in x (drop i s)) ≡ ahead (i + n) (first_in x (drop (i + n) s)))
+passes n x i s in-list e = pick (ltb (length s - i) n) (any_cell x (take n (drop i s))) refl refl e
+  where
+    pick : (a b : Bool) → ltb (length s - i) n ≡ a → any_cell x (take n (drop i s)) ≡ b → cond a false (not b) ≡ true →
+        (i + n ≤ length s) × (ahead i (first_in x (drop i s)) ≡ ahead (i + n) (first_in x (drop (i + n) s)))
     pick true b u v w = let z : ◌≡◌ {A = ℕ} 0 1 = cc in absurd (omega arith)
     pick false true u v w = let z : ◌≡◌ {A = ℕ} 0 1 = cc in absurd (omega arith)
-    pick false false u v w =
-        let l : n ≤ to - i = ltb-false (to - i) n u in
-        let k : i + n - i ≡ n = omega arith in
-        let f : any_cell x (cells_at n i h) ≡ false = ap (λ (k : ℕ). any_cell x (cells_at k i h)) (inv k) ∙ v in
-        let m : to - i ≡ n + (to - (i + n)) = omega arith in
-        (omega arith, ap (λ (k : ℕ). first_in x k i h) m ∙ first_behind x n (to - (i + n)) i h f)
+    pick false false u v w = let l : n ≤ length s - i = ltb-false (length s - i) n u in (omega arith, first_behind x n i s (omega arith) v)
 
-pub passes : (x i to n : ℕ) (h : List ℕ) → i ≤ to → n ≡ passed_at i to x h → 0 < n → (i + n ≤ to) × (first_in x (to - i) i h ≡ first_in x (to - (i + n)) (i + n) h)
-passes x i to n h l is more = pick (lacks_next 64 i to x h) (lacks_next 8 i to x h) refl refl is
-  where
-    pick : (a b : Bool) → lacks_next 64 i to x h ≡ a → lacks_next 8 i to x h ≡ b → n ≡ cond a 64 (cond b 8 0) → (i + n ≤ to) × (first_in x (to - i) i h ≡ first_in x (to - (i + n)) (i + n) h)
-    pick true b u v w = rw w (lacks_next_lem 64 x i to h l u)
-    pick false true u v w = rw w (lacks_next_lem 8 x i to h l v)
-    pick false false u v w = let z : ⊥ = omega arith in absurd z
-
-module _ (x i to : ℕ) (h : List ℕ) where
-  pub first_here : i < to → get_or h i 0 ≡ x → first_in x (to - i) i h ≡ i
-  unfolding first_in
-  first_here l e = let n : to - i ≡ suc (to - (i + 1)) = omega arith in rw (n, eq-eqb (get_or h i 0) x e)
-
-  pub first_later : i < to → (get_or h i 0 ≡ x → ⊥) → first_in x (to - i) i h ≡ first_in x (to - (i + 1)) (i + 1) h
-  unfolding first_in
-  first_later l e = let n : to - i ≡ suc (to - (i + 1)) = omega arith in rw (n, ne_eqb (get_or h i 0) x e)
-
-  pub first_none : to ≤ i → first_in x (to - i) i h ≡ i
-  unfolding first_in
-  first_none l = let n : to - i ≡ 0 = omega arith in rw n
-
--- what stands before the first x is kept as it is, and the first x is one
+-- what stands before the first x is kept as it is, and where there is none, all is
 pub record First (x : ℕ) (v : List ℕ) (size i end j : ℕ) (h : List ℕ) : Type 0 where
   pub least : i ≤ j
-  pub most : j ≤ end
-  pub is : j < end → get_or h j 0 ≡ x
+  pub most : j < end
+  pub is : get_or h j 0 ≡ x
   pub kept : spread x v (run i end h) ≡ run i j h ++ spread x v (run j end h)
   pub sized : spread_size x size (run i end h) ≡ (j - i) + spread_size x size (run j end h)
 
-first_from : (x : ℕ) (v : List ℕ) (size n i end : ℕ) (h : List ℕ) → i + n ≡ end → First x v size i end (first_in x n i h) h
-unfolding first_in
+pub record Lacking (x : ℕ) (v : List ℕ) (size i end : ℕ) (h : List ℕ) : Type 0 where
+  pub kept : spread x v (run i end h) ≡ run i end h
+  pub sized : spread_size x size (run i end h) ≡ end - i
+
+abbrev Found : ℕ → List ℕ → ℕ → ℕ → ℕ → List ℕ → Option ℕ → Type 0
+Found x v size i end h (Some n) = First x v size i end (i + n) h
+Found x v size i end h None = Lacking x v size i end h
+
+first_from : (x : ℕ) (v : List ℕ) (size n i end : ℕ) (h : List ℕ) → i + n ≡ end → Found x v size i end h (first_in x (cells_at n i h))
+unfolding first_in cells_at
 first_from x v size zero i end h e = record {
-  least = omega arith;
-  most = omega arith;
-  is = λ l. absurd (omega arith);
-  kept = rw (run_end i i h (omega arith));
-  sized = omega arith;
+  kept = rw (run_end i end h (omega arith));
+  sized = omega (arith, size_end x size i end h (omega arith));
 }
-first_from x v size (suc n) i end h e = pick (eqb (get_or h i 0) x) refl (first_from x v size n (i + 1) end h (omega arith))
+first_from x v size (suc n) i end h e = pick (eqb (get_or h i 0) x) refl (first_in x (cells_at n (i + 1) h)) (first_from x v size n (i + 1) end h (omega arith))
   where
-    pick : (b : Bool) → eqb (get_or h i 0) x ≡ b → First x v size (i + 1) end (first_in x n (i + 1) h) h → First x v size i end (cond b i (first_in x n (i + 1) h)) h
-    pick true u f = record {
-      least = omega arith;
-      most = omega arith;
-      is = λ l. eqb-true (get_or h i 0) x u;
-      kept = rw (run_end i i h (omega arith));
-      sized = omega arith;
-    }
-    pick false u f =
-        let j = first_in x n (i + 1) h in
-        let o = eqb-false (get_or h i 0) x u in
+    pick : (b : Bool) → eqb (get_or h i 0) x ≡ b → (o : Option ℕ) → Found x v size (i + 1) end h o → Found x v size i end h (cond b (Some 0) (further o))
+    pick true u o f =
+        let z : i + 0 ≡ i = omega arith in
         record {
-          least = omega (arith, f.least);
+          least = omega arith;
+          most = omega arith;
+          is = rw z (eqb-true (get_or h i 0) x u);
+          kept = rw (z, run_end i i h (omega arith));
+          sized = rw z (omega arith);
+        }
+    pick false u None f =
+        let l : i < end = omega arith in
+        let a = eqb-false (get_or h i 0) x u in
+        record {
+          kept = spread_other x v i end h l a ∙ ap (λ (s : List ℕ). get_or h i 0 ∷ s) f.kept ∙ inv (run_cons i end h l);
+          sized = omega (arith, size_other x size i end h l a, f.sized);
+        }
+    pick false u (Some k) f =
+        let l : i < end = omega arith in
+        let j = i + 1 + k in
+        let z : i + suc k ≡ j = omega arith in
+        let a = eqb-false (get_or h i 0) x u in
+        subst (λ (j : ℕ). First x v size i end j h) (inv z) (record {
+          least = omega arith;
           most = f.most;
           is = f.is;
-          kept = spread_other x v i end h (omega arith) o ∙ ap (λ (s : List ℕ). get_or h i 0 ∷ s) f.kept ∙ ap (λ (s : List ℕ). s ++ spread x v (run j end h)) (inv (run_cons i j h (omega (arith, f.least))));
-          sized = omega (arith, size_other x size i end h (omega arith) o, f.sized, f.least);
-        }
+          kept = spread_other x v i end h l a ∙ ap (λ (s : List ℕ). get_or h i 0 ∷ s) f.kept ∙ ap (λ (s : List ℕ). s ++ spread x v (run j end h)) (inv (run_cons i j h (omega arith)));
+          sized = omega (arith, size_other x size i end h l a, f.sized);
+        })
 
-pub first_means : (x : ℕ) (v : List ℕ) (size i end j : ℕ) (h : List ℕ) → i < end → j ≡ first_in x (end - i) i h → First x v size i end j h
-first_means x v size i end j h l e = subst (λ (k : ℕ). First x v size i end k h) (inv e) (first_from x v size (end - i) i end h (omega arith))
+found_none : (x : ℕ) (v : List ℕ) (size i end : ℕ) (h : List ℕ) → end ≤ i → Found x v size i end h (first_in x [])
+unfolding first_in
+found_none x v size i end h l = record {
+  kept = rw (run_end i end h l);
+  sized = omega (arith, size_end x size i end h l);
+}
+
+found_so : (x : ℕ) (v : List ℕ) (size i end : ℕ) (h : List ℕ) (o : Option ℕ) → o ≡ first_in x (run i end h) → Found x v size i end h o
+found_so x v size i end h o e = subst (Found x v size i end h) (inv e) (pick (dec_le i end))
+  where
+    pick : Dec (i ≤ end) → Found x v size i end h (first_in x (run i end h))
+    pick (yes l) = first_from x v size (end - i) i end h (omega arith)
+    pick (no l) = subst (λ (s : List ℕ). Found x v size i end h (first_in x s)) (inv (run_end i end h (omega arith))) (found_none x v size i end h (omega arith))
 
 -- one turn of `rename`
 pub spread_cell : (x y i end : ℕ) (g : List ℕ) → i < end → spread x (y ∷ []) (run i end g) ≡ renamed_cell (get_or g i 0) x y ∷ spread x (y ∷ []) (run (i + 1) end g)
@@ -475,11 +517,6 @@ pub record Filling (g : List ℕ) (from x vfrom used end vend size all : ℕ) (h
   pub made : sets g used (spread x (run vfrom vend g) (run from end g)) ≡ sets h k (spread x (run vfrom vend g) (run i end g))
 
 module _ {g : List ℕ} {from x vfrom used end vend size all : ℕ} {h : List ℕ} {k i : ℕ} (f : Filling g from x vfrom used end vend size all h k i) where
-  pub filling_end : end ≤ i → fill_answer (Done k) h ≡ fill_answer (Done (used + all)) (sets g used (spread x (run vfrom vend g) (run from end g)))
-  filling_end l =
-      let none : sets h k (spread x (run vfrom vend g) (run i end g)) ≡ h = rw (run_end i end g l) in
-      ap₂ fill_answer (ap Done (omega (arith, f.left, size_end x size i end g l))) (inv (f.made ∙ none))
-
   module _ (more : i < end) where
     module _ (is : get_or h i 0 ≡ x) where
       tree_less : spread_size x size (run i end g) ≡ size + spread_size x size (run (i + 1) end g)
@@ -488,7 +525,7 @@ module _ {g : List ℕ} {from x vfrom used end vend size all : ℕ} {h : List �
       pub filling_fits : k + size ≤ 65535
       filling_fits = omega (arith, tree_less, f.left, f.fits)
 
-      pub filling_tree : (r : Filled) (h' : List ℕ) → fill_answer r h' ≡ appended vfrom vend k h → Filling g from x vfrom used end vend size all h' (k + size) (i + 1)
+      pub filling_tree : (r : Option ℕ) (h' : List ℕ) → fill_answer r h' ≡ appended vfrom vend k h → Filling g from x vfrom used end vend size all h' (k + size) (i + 1)
       filling_tree r h' made = record {
         ends = f.ends;
         vends = f.vends;
@@ -500,76 +537,98 @@ module _ {g : List ℕ} {from x vfrom used end vend size all : ℕ} {h : List �
         made = f.made ∙ turn_here f.same x vfrom vend i end k more f.ends size f.sized f.vends f.here filling_fits r h' made is;
       }
 
--- one turn of `fill`: what stands before the first x, copied
-module _ {g : List ℕ} {from x vfrom used end vend size all : ℕ} {h : List ℕ} {k i : ℕ} (f : Filling g from x vfrom used end vend size all h k i) (more : i < end)
-    (j : ℕ) (found : j ≡ first_in x (end - i) i h) where
+-- one turn of `fill`: what stands before the first x, copied; or all that is left
+module _ {g : List ℕ} {from x vfrom used end vend size all : ℕ} {h : List ℕ} {k i : ℕ} (f : Filling g from x vfrom used end vend size all h k i) where
   same_run : run i end h ≡ run i end g
   same_run = run_below f.same i end f.ends
 
-  pub first_at : First x (run vfrom vend g) size i end j h
-  first_at = first_means x (run vfrom vend g) size i end j h more found
+  module _ (n : ℕ) (found : Some n ≡ first_in x (run i end h)) where
+    pub first_at : First x (run vfrom vend g) size i end (i + n) h
+    first_at = found_so x (run vfrom vend g) size i end h (Some n) found
 
-  behind_same : run j end h ≡ run j end g
-  behind_same = run_below f.same j end f.ends
+    behind_same : run (i + n) end h ≡ run (i + n) end g
+    behind_same = run_below f.same (i + n) end f.ends
 
-  sized_so : spread_size x size (run i end g) ≡ (j - i) + spread_size x size (run j end g)
-  sized_so = ap (spread_size x size) (inv same_run) ∙ first_at.sized ∙ ap (λ (s : List ℕ). (j - i) + spread_size x size s) behind_same
+    sized_so : spread_size x size (run i end g) ≡ n + spread_size x size (run (i + n) end g)
+    sized_so =
+        let d : i + n - i ≡ n = omega arith in
+        ap (spread_size x size) (inv same_run) ∙ first_at.sized ∙ ap₂ (λ (m : ℕ) (s : List ℕ). m + spread_size x size s) d behind_same
 
-  pub first_fits : k + (j - i) ≤ 65535
-  first_fits = omega (arith, sized_so, f.left, f.fits)
+    pub first_fits : k + n ≤ 65535
+    first_fits = omega (arith, sized_so, f.left, f.fits)
 
-  module _ (r : Filled) (h' : List ℕ) (made : fill_answer r h' ≡ appended i j k h) where
-    copied_run : h' ≡ sets h k (run i j h)
-    copied_run =
-        let m : min j k ≡ j = omega (arith, first_at.most, f.ends, f.here) in
-        let d : appended i j k h ≡ fill_answer (Done (k + (j - i))) (sets h k (run i j h)) = rw m (written_done k (j - i) (run i j h) h first_fits) in
-        ap (λ (w : FillAnswer). w.cells) (made ∙ d)
+    module _ (r : Option ℕ) (h' : List ℕ) (made : fill_answer r h' ≡ appended i (i + n) k h) where
+      copied_run : h' ≡ sets h k (run i (i + n) h)
+      copied_run =
+          let d : i + n - i ≡ n = omega arith in
+          let m : min (i + n) k ≡ i + n = omega (arith, first_at.most, f.ends, f.here) in
+          let e : appended i (i + n) k h ≡ fill_answer (Some (k + (i + n - i))) (sets h k (run i (i + n) h)) =
+          rw m (written_done k (i + n - i) (run i (i + n) h) h (omega (arith, first_fits))) in
+          ap (λ (w : FillAnswer). w.cells) (made ∙ e)
 
-    pub filling_run : Filling g from x vfrom used end vend size all h' (k + (j - i)) j
-    filling_run = record {
-      ends = f.ends;
-      vends = f.vends;
-      sized = f.sized;
-      fits = f.fits;
-      here = omega (arith, f.here);
-      same = rw copied_run (below_sets k (run i j h) f.same f.here);
-      left = omega (arith, sized_so, f.left);
-      made =
-          let v = run vfrom vend g in
-          let e : spread x v (run i end g) ≡ run i j h ++ spread x v (run j end g) = ap (spread x v) (inv same_run) ∙ first_at.kept ∙ ap (λ (s : List ℕ). run i j h ++ spread x v s) behind_same in
-          f.made ∙ ap (sets h k) e ∙ inv (sets_append h k (run i j h) (spread x v (run j end g))) ∙ ap₂ (λ (s : List ℕ) (n : ℕ). sets s n (spread x v (run j end g))) (inv copied_run) (omega (arith, length_cells_at (j - i) i h));
-    }
+      pub filling_run : Filling g from x vfrom used end vend size all h' (k + n) (i + n)
+      filling_run = record {
+        ends = f.ends;
+        vends = f.vends;
+        sized = f.sized;
+        fits = f.fits;
+        here = omega (arith, f.here);
+        same = rw copied_run (below_sets k (run i (i + n) h) f.same f.here);
+        left = omega (arith, sized_so, f.left);
+        made =
+            let j = i + n in
+            let v = run vfrom vend g in
+            let e : spread x v (run i end g) ≡ run i j h ++ spread x v (run j end g) = ap (spread x v) (inv same_run) ∙ first_at.kept ∙ ap (λ (s : List ℕ). run i j h ++ spread x v s) behind_same in
+            f.made ∙ ap (sets h k) e ∙ inv (sets_append h k (run i j h) (spread x v (run j end g))) ∙ ap₂ (λ (s : List ℕ) (n : ℕ). sets s n (spread x v (run j end g))) (inv copied_run) (omega (arith, length_cells_at (j - i) i h));
+      }
 
-    pub first_is : j < end → get_or h' j 0 ≡ x
-    first_is l = filling_run.same.same j (omega (arith, f.ends)) ∙ inv (f.same.same j (omega (arith, f.ends))) ∙ first_at.is l
+      pub first_is : get_or h' (i + n) 0 ≡ x
+      first_is = filling_run.same.same (i + n) (omega (arith, first_at.most, f.ends)) ∙ inv (f.same.same (i + n) (omega (arith, first_at.most, f.ends))) ∙ first_at.is
 
--- the measure of a loop up to `end` falls
-pub less_left : (i end : ℕ) → i < end → end - (i + 1) < end - i
-less_left i end l = omega arith
+      pub filling_turn : (r' : Option ℕ) (h'' : List ℕ) → fill_answer r' h'' ≡ appended vfrom vend (k + n) h' → Filling g from x vfrom used end vend size all h'' (k + n + size) (i + (n + 1))
+      filling_turn r' h'' put =
+          let e : i + (n + 1) ≡ i + n + 1 = omega arith in
+          rw e (filling_tree filling_run first_at.most first_is r' h'' put)
 
--- THE INVARIANT of `move_down`: i cells are moved; from the next one on the frame is as it was, and what is left makes what the whole makes
-pub record Moving (g : List ℕ) (a b size : ℕ) (f : List ℕ) (i : ℕ) : Type 0 where
-  pub down : b ≤ a
-  pub same : (j : ℕ) → b + i ≤ j → get_or f j 0 ≡ get_or g j 0
-  pub made : sets g b (cells_at size a g) ≡ sets f (b + i) (run (a + i) (a + size) g)
+  pub filling_end : None ≡ first_in x (run i end h) → (r : Option ℕ) (h' : List ℕ) → fill_answer r h' ≡ appended i end k h → h' ≡ sets g used (spread x (run vfrom vend g) (run from end g))
+  filling_end found r h' made =
+      let v = run vfrom vend g in
+      let l : Lacking x v size i end h = found_so x v size i end h None found in
+      let m : min end k ≡ end = omega (arith, f.ends, f.here) in
+      let s : spread_size x size (run i end g) ≡ end - i = ap (spread_size x size) (inv same_run) ∙ l.sized in
+      let e : appended i end k h ≡ fill_answer (Some (k + (end - i))) (sets h k (run i end h)) = rw m (written_done k (end - i) (run i end h) h (omega (arith, s, f.left, f.fits))) in
+      let t : spread x v (run i end g) ≡ run i end h = ap (spread x v) (inv same_run) ∙ l.kept in
+      ap (λ (w : FillAnswer). w.cells) (made ∙ e) ∙ inv (f.made ∙ ap (sets h k) t)
 
-pub moving_start : (g : List ℕ) (a b size : ℕ) → b ≤ a → Moving g a b size g 0
-moving_start g a b size l = record {
-  down = l;
-  same = λ j m. refl;
-  made = ap₂ (λ (p : ℕ) (w : List ℕ). sets g p w) (omega arith) (ap₂ (λ (p q : ℕ). cells_at p q g) (omega arith) (omega arith));
-}
+pub run_part : (n i : ℕ) (h : List ℕ) → i + n ≤ length h → take n (drop i h) ≡ cells_at n i h
+run_part n i h l = rw (run_drop n i h l) (take_at (cells_at n i h) (drop (i + n) h) n (length_cells_at n i h))
 
-module _ {g : List ℕ} {a b size : ℕ} {f : List ℕ} {i : ℕ} (m : Moving g a b size f i) where
-  pub moving_next : i < size → Moving g a b size (set f (b + i) (get_or f (a + i) 0)) (i + 1)
-  moving_next l = record {
-    down = m.down;
-    same = λ j p. get_or-set_other f (b + i) j (get_or f (a + i) 0) 0 (λ e. omega arith) ∙ m.same j (omega arith);
-    made =
-        let e : a + (i + 1) ≡ a + i + 1 = omega arith in
-        let k : b + (i + 1) ≡ suc (b + i) = omega arith in
-        m.made ∙ rw (run_cons (a + i) (a + size) g (omega arith), e, k, m.same (a + i) (omega (arith, m.down)));
-  }
+-- what `copy_within` leaves: the cells from a on again at b
+pub moved_within : (g : List ℕ) (a b n : ℕ) → a + n ≤ length g → b + n ≤ length g → paste g b (drop a g) n ≡ sets g b (cells_at n a g)
+moved_within g a b n l m =
+    let s : length (cells_at n a g) ≡ n = length_cells_at n a g in
+    let t : take n (drop a g) ≡ cells_at n a g = run_part n a g l in
+    let e : sets g b (cells_at n a g) ≡ take b g ++ cells_at n a g ++ drop (b + length (cells_at n a g)) g = sets-eq (cells_at n a g) g b (omega (arith, s)) in
+    rw (e, t, s)
 
-  pub moving_end : size ≤ i → f ≡ sets g b (cells_at size a g)
-  moving_end l = inv (m.made ∙ rw (run_end (a + i) (a + size) g (omega arith)))
+-- what the answer of `append_pair` tells
+module _ (used a b : ℕ) (h g : List ℕ) where
+  pub pair_over : fill_answer None g ≡ written used 3 (4 ∷ (a ∷ (b ∷ []))) h → (65532 < used) × (g ≡ h)
+  pair_over e = pick (dec_le (used + 3) 65535)
+    where
+      pick : Dec (used + 3 ≤ 65535) → (65532 < used) × (g ≡ h)
+      pick (yes l) =
+          let n : None ≡ Some (used + 3) = ap (λ (w : FillAnswer). w.answer) (e ∙ written_done used 3 (4 ∷ (a ∷ (b ∷ []))) h l) in
+          let z : ◌≡◌ {A = ℕ} 0 1 = cc in absurd (omega arith)
+      pick (no l) = (omega arith, ap (λ (w : FillAnswer). w.cells) (e ∙ written_over used 3 (4 ∷ (a ∷ (b ∷ []))) h (omega arith)))
+
+  pub pair_made : {k : ℕ} → fill_answer (Some k) g ≡ written used 3 (4 ∷ (a ∷ (b ∷ []))) h → (used ≤ 65532) × (k ≡ used + 3)
+  pair_made {k} e = pick (dec_le (used + 3) 65535)
+    where
+      pick : Dec (used + 3 ≤ 65535) → (used ≤ 65532) × (k ≡ used + 3)
+      pick (yes l) =
+          let n : Some k ≡ Some (used + 3) = ap (λ (w : FillAnswer). w.answer) (e ∙ written_done used 3 (4 ∷ (a ∷ (b ∷ []))) h l) in
+          (omega arith, cc)
+      pick (no l) =
+          let n : Some k ≡ None = ap (λ (w : FillAnswer). w.answer) (e ∙ written_over used 3 (4 ∷ (a ∷ (b ∷ []))) h (omega arith)) in
+          let z : ◌≡◌ {A = ℕ} 0 1 = cc in absurd (omega arith)

@@ -1,50 +1,56 @@
 // Runs of the heap. What is made is written at `used` and behind it, so that every range below stays as it is.
-ghost use Rattle.std.specs.Prelude.{◌≡◌, ◌∷◌, [], min, ◌+◌, ◌-◌, ◌*◌, ◌≤◌, ◌<◌};
+ghost use Rattle.std.specs.Prelude.{◌≡◌, ◌∷◌, [], ◌+◌, ◌-◌, ◌≤◌, length};
 ghost use Rattle.std.proofs.lemmas.List.Edits.{sets};
+ghost use Rattle.sets.specs.Twins.Copying.{any_cell};
 ghost use Rattle.sets.specs.Twins.Fill.{fill_answer, spread};
-ghost use Rattle.runs.specs.Twins.Runs.{stands_in_run, run, count_in, seen_in, lacks_next, passed_at, first_in, spread_size, appended, appended_filled, moved_by, replace_answer, replaced, appended_pair};
+ghost use Rattle.runs.specs.Twins.Runs.{run, count_in, seen_in, lacks_next, first_in, spread_size, appended, appended_filled, moved_by, replace_answer, replaced, appended_pair};
 
-use cells::cell;
 use codes::code::{met, met_variable, one_if, renamed};
 use codes::outcome::{Replaced, without};
-use sets::fill::Filled;
 use sets::tree;
 
 // The cells of the heap.
 pub const SIZE: usize = 65535;
 
-// Whether x stands in a run. Every cell is looked at, with no way out before the last: the compiler then compares many at once.
-fn stands_below(heap: &[u16; 65535], from: usize, to: usize, x: u16) -> bool
+// The cells from one place up to another, and none where that lies before it.
+fn part(heap: &[u16; 65535], from: usize, to: usize) -> &[u16]
     requires { to ≤ 65535 }
-    ensures { result ≡ stands_in_run from to x heap.now }
+    ensures { result.now ≡ run from to heap.now }
+{
+    if to <= from {
+        return &[];
+    }
+    &heap[from..to]
+}
+
+// Whether x stands in cells. Every cell is looked at, with no way out before the last: the compiler then compares many at once.
+fn stands(cells: &[u16], x: u16) -> bool
+    ensures { result ≡ any_cell x cells.now }
 {
     let mut n: u16 = 0;
-    let mut i = from;
-    while i < to {
-        n = met(n, heap[i], x);
-        i += 1;
+    for code in cells {
+        n = met(n, *code, x);
     }
     n == 1
 }
 
 // How often x stands in a run, and whether any variable does.
-#[derive(Drop)]
+#[derive(Clone, Copy)]
 struct Seen {
     count: u16,
     variables: bool,
 }
 
-fn look_through(heap: &[u16; 65535], from: usize, to: usize, x: u16) -> Seen
-    requires { to ≤ 65535 }
-    ensures { result ≡ seen_in x (run from to heap.now) }
+// The count is a cell, so that many are counted at once: no run is longer than the heap.
+fn look_through(cells: &[u16], x: u16) -> Seen
+    requires { length cells.now ≤ 65535 }
+    ensures { result ≡ seen_in x cells.now }
 {
     let mut n: u16 = 0;
     let mut v: u16 = 0;
-    let mut i = from;
-    while i < to {
-        n += one_if(heap[i], x);
-        v = met_variable(v, heap[i]);
-        i += 1;
+    for code in cells {
+        n += one_if(*code, x);
+        v = met_variable(v, *code);
     }
     Seen {
         count: n,
@@ -52,85 +58,62 @@ fn look_through(heap: &[u16; 65535], from: usize, to: usize, x: u16) -> Seen
     }
 }
 
-// The cells of a run when each x, which stands in it n times, becomes `size` cells.
-fn filled_size(heap: &[u16; 65535], from: usize, to: usize, x: u16, n: u16, size: usize) -> usize
-    requires { (to ≤ 65535) × (size ≤ 65535) × (n ≡ count_in x (run from to heap.now)) }
-    ensures { result ≡ spread_size x size (run from to heap.now) }
+// As many cells as there are when each x, which stands in them n times, becomes `size` cells.
+fn filled_size(cells: &[u16], x: u16, n: u16, size: usize) -> usize
+    requires { (size ≤ 65535) × (n ≡ count_in x cells.now) }
+    ensures { result ≡ spread_size x size cells.now }
 {
-    if to < from {
-        return 0;
-    }
-    let k = n as usize;
-    (to - from) + k * size - k
+    let k = usize::from(n);
+    cells.len() + k * size - k
 }
 
-// Whether the next n cells are there and x stands in none.
-fn lacks_next(heap: &[u16; 65535], i: usize, to: usize, x: u16, n: usize) -> bool
-    requires { (i ≤ to) × (to ≤ 65535) }
-    ensures { result ≡ lacks_next n i to x heap.now }
+// Whether the n cells from a place on are there and x stands in none.
+fn lacks_next(cells: &[u16], i: usize, n: usize, x: u16) -> bool
+    requires { i ≤ length cells.now }
+    ensures { result ≡ lacks_next n i x cells.now }
 {
-    if to - i < n {
+    if cells.len() - i < n {
         return false;
     }
-    if stands_below(heap, i, i + n, x) {
-        false
-    } else {
-        true
-    }
+    !stands(&cells[i..i + n], x)
 }
 
-// How many cells can be passed at once.
-fn passed(heap: &[u16; 65535], i: usize, to: usize, x: u16) -> usize
-    requires { (i ≤ to) × (to ≤ 65535) }
-    ensures { result ≡ passed_at i to x heap.now }
+// The first place of x in cells. 64 are passed at once while x stands in none of them, then 8: at most eight are left to be looked at one by one.
+fn find(cells: &[u16], x: u16) -> Option<usize>
+    ensures { result ≡ first_in x cells.now }
 {
-    if lacks_next(heap, i, to, x, 64) {
-        return 64;
+    let mut i = 0;
+    while lacks_next(cells, i, 64, x) {
+        i += 64;
     }
-    if lacks_next(heap, i, to, x, 8) {
-        return 8;
+    while lacks_next(cells, i, 8, x) {
+        i += 8;
     }
-    0
+    for j in i..cells.len() {
+        if cells[j] == x {
+            return Some(j);
+        }
+    }
+    None
 }
 
-// The first place of x in a run, and `to` where there is none.
-fn find(heap: &[u16; 65535], from: usize, to: usize, x: u16) -> usize
-    requires { to ≤ 65535 }
-    ensures { result ≡ first_in x (to - from) from heap.now }
-{
-    let mut i = from;
-    while i < to {
-        let n = passed(heap, i, to, x);
-        if 0 < n {
-            i += n;
-            continue;
-        }
-        if heap[i] == x {
-            return i;
-        }
-        i += 1;
-    }
-    i
-}
-
-// The run from `from` up to `to`, as far as it lies below `used`, once more at `used`. Done: the place behind it.
-pub fn append(heap: &mut [u16; 65535], from: usize, to: usize, used: usize) -> Filled
+// The run from `from` up to `to`, as far as it lies below `used`, once more at `used`: the place behind it, and None where it does not fit.
+pub fn append(heap: &mut [u16; 65535], from: usize, to: usize, used: usize) -> Option<usize>
     ensures { fill_answer result heap.new ≡ appended from to used heap.old }
 {
     if SIZE < used {
-        return Filled::Over;
+        return None;
     }
-    let end = cell::least(to, used);
-    let size = end - cell::least(from, end);
+    let end = to.min(used);
+    let size = end.saturating_sub(from);
     if SIZE - used < size {
-        return Filled::Over;
+        return None;
     }
-    let mut i: usize = 0;
-    while i < size {
+    // Upwards and by index: the two runs do not overlap, and copy_within would begin with the last cell.
+    for i in 0..size {
         heap[used + i] = heap[from + i];
-        i += 1;
     }
-    Filled::Done(used + size)
+    Some(used + size)
 }
 
 // The run with y in the place of each x, at `used`.
@@ -138,11 +121,9 @@ fn rename(heap: &mut [u16; 65535], from: usize, end: usize, x: u16, y: u16, used
     requires { (end ≤ used) × (used + (end - from) ≤ 65535) }
     ensures { heap.new ≡ sets heap.old used (spread x (y ∷ []) (run from end heap.old)) }
 {
-    let size = end - cell::least(from, end);
-    let mut i: usize = 0;
-    while i < size {
+    let size = end.saturating_sub(from);
+    for i in 0..size {
         heap[used + i] = renamed(heap[from + i], x, y);
-        i += 1;
     }
 }
 
@@ -162,17 +143,14 @@ fn fill(
     let size = vend - vfrom;
     let mut k = used;
     let mut i = from;
-    while i < end {
-        let j = find(heap, i, end, x);
-        append(heap, i, j, k);
-        k += j - i;
-        if end <= j {
-            return;
-        }
+    while let Some(n) = find(part(heap, i, end), x) {
+        append(heap, i, i + n, k);
+        k += n;
         append(heap, vfrom, vend, k);
         k += size;
-        i = j + 1;
+        i += n + 1;
     }
+    append(heap, i, end, k);
 }
 
 // The run, in which x stands n times, with the run from `vfrom` up to `vto` in the place of each, at `used`. Where it is over, all stays as it was.
@@ -185,32 +163,32 @@ fn append_filled(
     vfrom: usize,
     vto: usize,
     used: usize,
-) -> Filled
+) -> Option<usize>
     requires { (end ≤ used) × (used ≤ 65535) × (n ≡ count_in x (run from end heap.old)) }
     ensures { fill_answer result heap.new ≡ appended_filled from end x vfrom vto used heap.old }
 {
-    let vend = cell::least(vto, used);
-    let start = cell::least(vfrom, vend);
+    let vend = vto.min(used);
+    let start = vfrom.min(vend);
     let size = vend - start;
-    let all = filled_size(heap, from, end, x, n, size);
+    let all = filled_size(part(heap, from, end), x, n, size);
     if SIZE - used < all {
-        return Filled::Over;
+        return None;
     }
     if size == 1 {
         let y = heap[start];
         rename(heap, from, end, x, y, used);
-        return Filled::Done(used + all);
+        return Some(used + all);
     }
     fill(heap, from, end, x, start, vend, used);
-    Filled::Done(used + all)
+    Some(used + all)
 }
 
-fn moved_by(w: Filled) -> Replaced
+fn moved_by(w: Option<usize>) -> Replaced
     ensures { result ≡ moved_by w }
 {
     match w {
-        Filled::Done(k) => Replaced::Done(k),
-        Filled::Over => Replaced::Over,
+        Some(k) => Replaced::Done(k),
+        None => Replaced::Over,
     }
 }
 
@@ -230,25 +208,24 @@ pub fn replace(
     if SIZE < used {
         return Replaced::Over;
     }
-    let end = cell::least(to, used);
-    let s = look_through(heap, from, end, x);
+    let end = to.min(used);
+    let s = look_through(part(heap, from, end), x);
     let n = s.count;
     if n == 0 {
         return without(s.variables);
     }
-    let w = append_filled(heap, from, end, x, n, vfrom, vto, used);
-    moved_by(w)
+    moved_by(append_filled(heap, from, end, x, n, vfrom, vto, used))
 }
 
 // A pair of two leaves, at `used`.
-pub fn append_pair(heap: &mut [u16; 65535], head: u16, tail: u16, used: usize) -> Filled
+pub fn append_pair(heap: &mut [u16; 65535], head: u16, tail: u16, used: usize) -> Option<usize>
     ensures { fill_answer result heap.new ≡ appended_pair head tail used heap.old }
 {
     if 65532 < used {
-        return Filled::Over;
+        return None;
     }
     heap[used] = tree::PAIR;
     heap[used + 1] = head;
     heap[used + 2] = tail;
-    Filled::Done(used + 3)
+    Some(used + 3)
 }

@@ -2,20 +2,13 @@
 ghost use Rattle.std.specs.Prelude.{◌≡◌, ◌<◌};
 ghost use Rattle.samples.specs.Twins.Filling.{is_variable, new_code, sampled_cells};
 
-use cells::cell::least;
 use sets::fill::rename;
 
 // The code is that of `?eK` or of `?aK`.
 fn is_variable(code: u16) -> bool
     ensures { result ≡ is_variable code }
 {
-    if code % 4 == 2 {
-        return true;
-    }
-    if code % 4 == 3 {
-        return true;
-    }
-    false
+    code % 4 == 2 || code % 4 == 3
 }
 
 // The code of the new atom number k: "none a symbol of program or job", whose numbers are below 1,024.
@@ -31,16 +24,14 @@ fn new_code(k: u16) -> u16
 pub fn fill_sample(cells: &mut [u16; 4096], n: usize)
     ensures { cells.new ≡ sampled_cells n cells.old }
 {
-    let end = least(n, 4096);
-    let mut i: usize = 0;
+    let end = n.min(4096);
     let mut k: u16 = 0;
-    while i < end {
+    for i in 0..end {
         let code = cells[i];
-        i += 1;
-        if is_variable(code) {
-            rename(cells, end, code, new_code(k));
-            k += 1;
+        if !is_variable(code) {
             continue;
         }
+        rename(cells, end, code, new_code(k));
+        k += 1;
     }
 }

@@ -1,6 +1,6 @@
 // The table that the atoms of samples are named by: the texts' symbols, two cells each, then the numbers that they leave free, one for each
 // new atom.
-ghost use Rattle.std.specs.Prelude.{◌≡◌, ◌/◌, get_or, length};
+ghost use Rattle.std.specs.Prelude.{◌≡◌, ◌/◌, length};
 ghost use Rattle.lexer.specs.Twins.Table.{word_in};
 ghost use Rattle.samples.specs.Twins.Numbers.{number_of};
 ghost use Rattle.samples.specs.Twins.Naming.{copied_from, marked_from, free_from, name_table};
@@ -24,11 +24,9 @@ fn mark_taken(program: &[u8], job: &[u8], symbols: &[u16], taken: &mut [u16; 512
     ensures { taken.new ≡ marked_from program.now job.now symbols.now (length symbols.now / 2) 0 taken.old }
 {
     let count = symbols.len() / 2;
-    let mut k: usize = 0;
-    while k < count {
+    for k in 0..count {
         let n = symbol_number(program, job, symbols[2 * k + 1]);
         put(taken, n as usize, 1);
-        k += 1;
     }
 }
 
@@ -36,38 +34,22 @@ fn mark_taken(program: &[u8], job: &[u8], symbols: &[u16], taken: &mut [u16; 512
 fn put_free(taken: &[u16; 5121], table: &mut [u16; 6144])
     ensures { table.new ≡ free_from taken.now 5120 1 2048 table.old }
 {
-    let mut n: u16 = 1;
     let mut at: usize = 2048;
-    while n < 5121 {
-        let mark = taken[n as usize];
-        if mark == 0 {
-            put(table, at, n);
-            at += 1;
-            n += 1;
+    for n in 1..5121u16 {
+        if taken[n as usize] != 0 {
             continue;
         }
-        n += 1;
+        put(table, at, n);
+        at += 1;
     }
 }
 
-// What stands in the table of the symbols; 65,535, which is no offset, past its end.
-fn entry_at(symbols: &[u16], i: usize) -> u16
-    ensures { result ≡ get_or symbols.now i 65535 }
-{
-    if i < symbols.len() {
-        return symbols[i];
-    }
-    65535
-}
-
-// The symbols' entries: 2,048 cells.
+// The symbols' entries: 2,048 cells; 65,535, which is no offset, past the end of the symbols.
 fn copy_entries(symbols: &[u16], table: &mut [u16; 6144])
     ensures { table.new ≡ copied_from symbols.now 2048 0 table.old }
 {
-    let mut i: usize = 0;
-    while i < 2048 {
-        table[i] = entry_at(symbols, i);
-        i += 1;
+    for i in 0..2048 {
+        table[i] = symbols.get(i).copied().unwrap_or(65535);
     }
 }
 

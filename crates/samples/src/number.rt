@@ -19,6 +19,7 @@ fn counted(n: u16) -> u16
 }
 
 // The value of a numeral of at most four digits, without a leading nought; 0 of any other word, and of a larger one.
+#[tactic(auto, unfolding(crate::specs::Twins::Numbers::numeral_of))]
 fn numeral_of(word: &[u8]) -> u16
     ensures { result ≡ numeral_of word.now }
 {

@@ -11,9 +11,11 @@ use Rattle.writer.proofs.TextTurns.{drop_ahead}
 use Rattle.writer.specs.Twins.SampleText.{filled_line}
 use Rattle.lent.specs.Storage.{zeros}
 use Rattle.sets.specs.Twins.Copying.{copied}
+use Rattle.std.specs.Prelude.{Result, Err}
 use Rattle.sampling.specs.declared.line.Sampled.{Sampled}
-use Rattle.sampling.specs.declared.line.Sampled.TheVariants.{Done, Absent, Short}
-use Rattle.sampling.specs.Twins.Lines.{behind_lines, is_line, sample_cells, sample_of, sample_left}
+use Rattle.sampling.specs.declared.line.Unsampled.{Unsampled}
+use Rattle.sampling.specs.declared.line.Unsampled.TheVariants.{Absent, Short}
+use Rattle.sampling.specs.Twins.Lines.{behind_lines, is_line, done, sample_cells, sample_of, sample_left}
 
 behind_nothing : (k : ℕ) → behind_lines k [] ≡ []
 unfolding behind_lines
@@ -22,6 +24,9 @@ behind_nothing (suc k) = behind_nothing k
 
 pub behind_end_lem : (k : ℕ) (s : List ℕ) (at : ℕ) → length s ≤ at → drop at s ≡ behind_lines k (drop at s)
 behind_end_lem k s at l = let e : drop at s ≡ [] = drop_of_length-le s l in e ∙ inv (behind_nothing k) ∙ ap (behind_lines k) (inv e)
+
+pub behind_start : (before : ℕ) (s : List ℕ) → behind_lines before s ≡ behind_lines (before - 0) s
+behind_start before s = let e : before ≡ before - 0 = omega arith in ap (λ (n : ℕ). behind_lines n s) e
 
 pub behind_turn : (k left : ℕ) (s : List ℕ) (at : ℕ) → left ≡ suc k → behind_lines left (drop at s) ≡ behind_lines k (drop (min (at + line_end (drop at s)) (length s)) s)
 unfolding behind_lines
@@ -41,23 +46,23 @@ module _ (l s : List ℕ) (i o : ℕ) (a : i ≡ get_or l 1 0) (b : o ≡ get_or
   test : is_line (get_or l 1 0) (get_or l 2 0) ≡ is_line i o
   test = ap₂ is_line (inv a) (inv b)
 
-  pub sample_some : is_line i o ≡ true → (Done i o ≡ (sample_of l s).answer) × (sample_cells l s ≡ (sample_of l s).cells)
+  pub sample_some : is_line i o ≡ true → (done i o ≡ (sample_of l s).answer) × (sample_cells l s ≡ (sample_of l s).cells)
   sample_some e = rw (test ∙ e, ← a, ← b) (refl, refl)
 
-  pub sample_none : is_line i o ≡ false → (Absent ≡ (sample_of l s).answer) × (s ≡ (sample_of l s).cells)
+  pub sample_none : is_line i o ≡ false → (Err Absent ≡ (sample_of l s).answer) × (s ≡ (sample_of l s).cells)
   sample_none e = rw (test ∙ e) (refl, refl)
 
 -- by the number of the line and the room for its sample
 module _ (number : ℕ) (answer s : List ℕ) where
-  pub left_short : length s < 4096 → (Short ≡ (sample_left number answer s).answer) × (s ≡ (sample_left number answer s).cells)
+  pub left_short : length s < 4096 → (Err Short ≡ (sample_left number answer s).answer) × (s ≡ (sample_left number answer s).cells)
   unfolding sample_left
   left_short h = rw (lt-ltb (length s) 4096 h) (refl, refl)
 
-  pub left_none : 4096 ≤ length s → number ≡ 0 → (Absent ≡ (sample_left number answer s).answer) × (s ≡ (sample_left number answer s).cells)
+  pub left_none : 4096 ≤ length s → number ≡ 0 → (Err Absent ≡ (sample_left number answer s).answer) × (s ≡ (sample_left number answer s).cells)
   unfolding sample_left
   left_none h e = rw (le-ltb (length s) 4096 h, eq-eqb number 0 e) (refl, refl)
 
-  pub left_some : 4096 ≤ length s → (number ≡ 0 → ⊥) → (l x : List ℕ) (r : Sampled) → l ≡ behind_lines (number - 1) answer → (r ≡ (sample_of l s).answer) × (x ≡ (sample_of l s).cells) →
+  pub left_some : 4096 ≤ length s → (number ≡ 0 → ⊥) → (l x : List ℕ) (r : Result Sampled Unsampled) → l ≡ behind_lines (number - 1) answer → (r ≡ (sample_of l s).answer) × (x ≡ (sample_of l s).cells) →
       (r ≡ (sample_left number answer s).answer) × (x ≡ (sample_left number answer s).cells)
   unfolding sample_left
   left_some h n l x r e w = rw (le-ltb (length s) 4096 h, ne_eqb number 0 n, ← e) w

@@ -33,10 +33,12 @@ use Rattle.resolve.specs.ListAnswer.{too_short, cells_after, lines_then, list_le
 use Rattle.writer.specs.Twins.LineCells.{line_end}
 use Rattle.writer.specs.Twins.SampleText.{filled_line}
 use Rattle.writer.proofs.FilledLaws.{copied_front, sample_of as sampleCellsOf, sample_length, filled_means}
+use Rattle.std.specs.Prelude.{Result, Err}
 use Rattle.sampling.specs.declared.line.Sampled.{Sampled}
-use Rattle.sampling.specs.declared.line.Sampled.TheVariants.{Done, Absent}
+use Rattle.sampling.specs.declared.line.Unsampled.{Unsampled}
+use Rattle.sampling.specs.declared.line.Unsampled.TheVariants.{Absent}
 use Rattle.sampling.specs.SampleDemand.{StoredSample, OfEachLine}
-use Rattle.sampling.specs.Twins.Lines.{behind_lines, is_line, sample_cells, SampleLeft, sample_of, sample_left}
+use Rattle.sampling.specs.Twins.Lines.{behind_lines, is_line, done, sample_cells, SampleLeft, sample_of, sample_left}
 
 -- the line with so many before it
 behind_stored : (before : List Line) (L : Line) (behind : List Line) (z : List ℕ) → behind_lines (length before) (lines_cells (before ++ (L ∷ behind)) ++ z) ≡ line_cells L ++ (lines_cells behind ++ z)
@@ -111,11 +113,11 @@ module _ (L : Line) (R d : List ℕ) (small : Small L) (room : 4096 ≤ length d
       ∙ copied_front (sampleCellsOf c) Z (zeros d) n (sample_length c) (omega (arith, few, length-replicate {A = ℕ} (length d) 0))
       ∙ ap (λ (x : List ℕ). sampleCellsOf c ++ x) (drop_zeros n (length d))
 
-  of_line : ((sample_of (line_cells L ++ R) d).answer ≡ Done (nodes_all c.ins) (nodes c.out)) × ((sample_of (line_cells L ++ R) d).cells ≡ sampleCellsOf c ++ replicate (length d - nodes_io c) 0)
+  of_line : ((sample_of (line_cells L ++ R) d).answer ≡ done (nodes_all c.ins) (nodes c.out)) × ((sample_of (line_cells L ++ R) d).cells ≡ sampleCellsOf c ++ replicate (length d - nodes_io c) 0)
   of_line = rw line_is (refl, stored_cells)
 
 -- behind the last line there is none
-of_zeros : (m : ℕ) (d : List ℕ) → ((sample_of (replicate m 0) d).answer ≡ Absent) × ((sample_of (replicate m 0) d).cells ≡ d)
+of_zeros : (m : ℕ) (d : List ℕ) → ((sample_of (replicate m 0) d).answer ≡ Err Absent) × ((sample_of (replicate m 0) d).cells ≡ d)
 of_zeros m d = rw (zero_at m 2) (refl, refl)
 
 module _ (answer : List ℕ) (number : ℕ) (d : List ℕ) (room : 4096 ≤ length d) where
@@ -157,7 +159,7 @@ module _ (program job work a : List ℕ) (s : SProg) (t : SJob) (e : reading lis
           named = sampled_named (symbol_names program job) L.class.con;
         }
 
-    none : length found < number → (w.answer ≡ Absent) × (w.cells ≡ d)
+    none : length found < number → (w.answer ≡ Err Absent) × (w.cells ≡ d)
     none h =
         let z = behind_all found (number - 1) (length a - length (lines_cells found)) (omega arith) in
         let is : w ≡ sample_of (replicate z.0 0) d =
@@ -166,12 +168,12 @@ module _ (program job work a : List ℕ) (s : SProg) (t : SJob) (e : reading lis
         (ap (λ (x : SampleLeft). x.answer) is ∙ o.0, ap (λ (x : SampleLeft). x.cells) is ∙ o.1)
 
 -- what stands in the contract
-pub each_line : (answer : List ℕ) (number : ℕ) (d : List ℕ) {r : Sampled} {x : List ℕ} → r ≡ (sample_left number answer d).answer → x ≡ (sample_left number answer d).cells → OfEachLine answer number r d x
+pub each_line : (answer : List ℕ) (number : ℕ) (d : List ℕ) {r : Result Sampled Unsampled} {x : List ℕ} → r ≡ (sample_left number answer d).answer → x ≡ (sample_left number answer d).cells → OfEachLine answer number r d x
 each_line answer number d {r} {x} i k program job work a s t e long is room =
     let w = sample_left number (list_left program job work a).cells d in
     let ri : r ≡ w.answer = i ∙ ap (λ (y : List ℕ). (sample_left number y d).answer) is in
     let xi : x ≡ w.cells = k ∙ ap (λ (y : List ℕ). (sample_left number y d).cells) is in (
-      λ before behind L f n. subst (λ (y : Sampled). StoredSample program job s t L y d x) (inv ri)
+      λ before behind L f n. subst (λ (y : Result Sampled Unsampled). StoredSample program job s t L y d x) (inv ri)
           (subst (StoredSample program job s t L w.answer d) (inv xi) (here program job work a s t e long number d room before behind L f n)),
       λ h. let o = none program job work a s t e long number d room h in (ri ∙ o.0, xi ∙ o.1),
     )

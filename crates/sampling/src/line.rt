@@ -4,17 +4,23 @@ ghost use Rattle.sets.specs.Twins.Copying.{copied};
 ghost use Rattle.sampling.specs.SampleDemand.{OfEachLine};
 ghost use Rattle.sampling.specs.Twins.Lines.{is_line, behind_lines, sample_cells, sample_of, sample_left};
 
-use cells::cell;
+use cells::cell::cell;
 use lent::clear::clear;
 use sets::tree;
 use window::parts::{ahead, rest};
 use writer::line::line_end;
 use writer::sample::fill_line;
 
-// The cells of the inputs come first, then those of the output. Absent: there is no line of that number. Short: the storage has fewer than 4,096 cells.
-#[derive(Drop)]
-pub enum Sampled {
-    Done { ins: usize, out: usize },
+// How many cells the sample's inputs have, which come first, and how many its output.
+#[derive(Clone, Copy)]
+pub struct Sampled {
+    pub ins: usize,
+    pub out: usize,
+}
+
+// Why there is no sample. Absent: there is no line of that number. Short: the storage has fewer than 4,096 cells.
+#[derive(Clone, Copy)]
+pub enum Unsampled {
     Absent,
     Short,
 }
@@ -26,14 +32,12 @@ pub const SAMPLE: usize = 4096;
 fn line_place(answer: &[u16], before: usize) -> usize
     ensures { drop result answer.now ≡ behind_lines before answer.now }
 {
-    let mut left = before;
     let mut at: usize = 0;
-    while 0 < left {
+    for _ in 0..before {
         if answer.len() <= at {
             return at;
         }
         at = ahead(at, line_end(rest(answer, at)), answer.len());
-        left -= 1;
     }
     at
 }
@@ -42,13 +46,7 @@ fn line_place(answer: &[u16], before: usize) -> usize
 fn is_line(ins: usize, out: usize) -> bool
     ensures { result ≡ is_line ins out }
 {
-    if out == 0 {
-        return false;
-    }
-    if SAMPLE < ins {
-        return false;
-    }
-    out <= SAMPLE - ins
+    out != 0 && ins <= SAMPLE && out <= SAMPLE - ins
 }
 
 fn copy_front(cells: &[u16; 4096], n: usize, sample: &mut [u16])
@@ -68,28 +66,28 @@ fn put_sample(line: &[u16], sample: &mut [u16])
 }
 
 // The sample of the first line of `line`, if there is one.
-fn sample_first(line: &[u16], sample: &mut [u16]) -> Sampled
+fn sample_first(line: &[u16], sample: &mut [u16]) -> Result<Sampled, Unsampled>
     ensures { let w = sample_of line.now sample.old in (result ≡ w.answer) × (sample.new ≡ w.cells) }
 {
-    let ins = cell::wide(cell::cell(line, 1));
-    let out = cell::wide(cell::cell(line, 2));
-    if is_line(ins, out) {
-        put_sample(line, sample);
-        return Sampled::Done { ins, out };
+    let ins = usize::from(cell(line, 1));
+    let out = usize::from(cell(line, 2));
+    if !is_line(ins, out) {
+        return Err(Unsampled::Absent);
     }
-    Sampled::Absent
+    put_sample(line, sample);
+    Ok(Sampled { ins, out })
 }
 
 // The sample of the line with this number, counted from 1 as it is printed: "For each line it wants one known input, with its output" (02, request 2).
 // Where the line is absent or the storage short, nothing is touched. Of the storage that `list` left it is the sample of that line of the listing.
-pub fn sample_line(answer: &[u16], number: usize, sample: &mut [u16]) -> Sampled
+pub fn sample_line(answer: &[u16], number: usize, sample: &mut [u16]) -> Result<Sampled, Unsampled>
     ensures { (let w = sample_left number answer.now sample.old in (result ≡ w.answer) × (sample.new ≡ w.cells)) × OfEachLine answer.now number result sample.old sample.new }
 {
     if sample.len() < SAMPLE {
-        return Sampled::Short;
+        return Err(Unsampled::Short);
     }
     if number == 0 {
-        return Sampled::Absent;
+        return Err(Unsampled::Absent);
     }
     let line = rest(answer, line_place(answer, number - 1));
     sample_first(line, sample)

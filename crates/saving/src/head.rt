@@ -25,35 +25,35 @@ pub struct Node {
 pub(crate) fn entry_cells(entries: usize) -> usize
     ensures { result ≡ entry_cells entries }
 {
-    3 * cell::least(entries, entry::ENTRIES)
+    3 * entries.min(entry::ENTRIES)
 }
 
 // The cells of so many non-equalities, as far as q has them.
 pub(crate) fn side_cells(neqs: usize) -> usize
     ensures { result ≡ side_cells neqs }
 {
-    2 * cell::least(neqs, 2048)
+    2 * neqs.min(2048)
 }
 
 // Where the head of the record begins that ends at `top`.
 pub(crate) fn head_start(top: usize) -> usize
     ensures { result ≡ head_start top }
 {
-    cell::less(cell::least(top, LENGTH), HEAD)
+    top.min(LENGTH).saturating_sub(HEAD)
 }
 
 // The cell k of the head that begins at h; 0 past the end.
 fn cell_at(saved: &[u16; 16384], h: usize, k: u16) -> u16
     ensures { result ≡ number_at saved.now h k }
 {
-    cell::cell(saved, cell::least(h, LENGTH) + cell::wide(k))
+    cell::cell(saved, h.min(LENGTH) + usize::from(k))
 }
 
 // The same as a number.
 fn number(saved: &[u16; 16384], h: usize, k: u16) -> usize
     ensures { result ≡ number_at saved.now h k }
 {
-    cell::wide(cell_at(saved, h, k))
+    usize::from(cell_at(saved, h, k))
 }
 
 // The node whose numbers stand at h.
@@ -116,5 +116,5 @@ pub(crate) fn begins_at(saved: &[u16; 16384], top: usize) -> usize
     let h = head_start(top);
     let sides = side_cells(number(saved, h, 6));
     let entries = entry_cells(number(saved, h, 4));
-    cell::less(cell::less(h, sides), entries)
+    h.saturating_sub(sides).saturating_sub(entries)
 }

@@ -5,7 +5,6 @@ ghost use Rattle.saving.specs.Twins.Saving.{size_of, stored, allowed_at, is_low,
 
 use crate::head;
 use crate::head::{LENGTH, Node};
-use cells::cell;
 use sets::tree;
 
 // Where this storage is full, the records stay that end in its first half.
@@ -21,7 +20,7 @@ const GAP: usize = 8;
 const ALL: usize = 65535;
 
 // A saved one, and where its cells begin.
-#[derive(Drop)]
+#[derive(Clone, Copy)]
 pub struct Back {
     pub node: Node,
     pub top: usize,
@@ -42,7 +41,7 @@ fn store(frame: &[u16; 12360], q: &[u16; 4096], saved: &mut [u16; 16384], n: Nod
     let c = n.at;
     let entries = head::entry_cells(c.entries);
     let sides = head::side_cells(c.neqs);
-    let e = cell::least(at, LENGTH);
+    let e = at.min(LENGTH);
     let s = e + entries;
     let h = s + sides;
     tree::copy(frame, 0, entries, saved, e);
@@ -55,9 +54,9 @@ fn store(frame: &[u16; 12360], q: &[u16; 4096], saved: &mut [u16; 16384], n: Nod
 fn allowed(saved: &[u16; 16384], t: usize, used: usize) -> usize
     ensures { result ≡ allowed_at saved.now used t }
 {
-    let n = cell::least(used, ALL);
+    let n = used.min(ALL);
     let before = head::depth_at(saved, head::begins_at(saved, t));
-    if cell::least(before, ALL) + GAP < head::depth_at(saved, t) {
+    if before.min(ALL) + GAP < head::depth_at(saved, t) {
         return n + n / 2;
     }
     n
@@ -67,10 +66,7 @@ fn allowed(saved: &[u16; 16384], t: usize, used: usize) -> usize
 fn is_low(saved: &[u16; 16384], t: usize, size: usize, used: usize) -> bool
     ensures { result ≡ is_low saved.now size used t }
 {
-    if t <= size {
-        return head::used_at(saved, t) <= allowed(saved, t, used);
-    }
-    false
+    t <= size && head::used_at(saved, t) <= allowed(saved, t, used)
 }
 
 // The top without the newer records, as many as are needed for the rest to be low; those up to `base` stay.
@@ -98,7 +94,7 @@ pub fn older_used(saved: &[u16; 16384], top: usize, base: usize) -> usize
 fn place_for(saved: &[u16; 16384], size: usize, top: usize, base: usize) -> usize
     ensures { result ≡ place_for saved.now size top base }
 {
-    let t = cell::least(top, LENGTH);
+    let t = top.min(LENGTH);
     if size <= LENGTH - t {
         return t;
     }
@@ -118,7 +114,7 @@ pub fn save(
     ensures { save_left result saved.new ≡ saved_to frame.now q.now n top base saved.old }
 {
     let size = size_of(n);
-    let t = cell::least(place_for(saved, size, top, base), LENGTH);
+    let t = place_for(saved, size, top, base).min(LENGTH);
     if size <= LENGTH - t {
         store(frame, q, saved, n, t);
         return t + size;
@@ -136,7 +132,7 @@ pub fn load(saved: &[u16; 16384], top: usize, frame: &mut [u16; 12360], q: &mut 
     let entries = head::entry_cells(c.entries);
     let sides = head::side_cells(c.neqs);
     let from = head::begins_at(saved, top);
-    let s = cell::less(h, sides);
+    let s = h.saturating_sub(sides);
     tree::copy(saved, from, entries, frame, 0);
     tree::copy(saved, s, sides, q, 0);
     Back { node: n, top: from }

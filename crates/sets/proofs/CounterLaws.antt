@@ -2,14 +2,14 @@
 use Prim.Native.Nat.{ℕ, ◌≤◌, ◌<◌}
 use mathlib.Core.Path.{◌≡◌, refl}
 use borrow.Author.Tests.{lt-ltb, le-ltb}
+use Rattle.std.specs.Prelude.{Some, None}
 use Rattle.expressions.specs.Split.{take_numbers}
 use Rattle.sets.specs.Twins.Counting.{fresh, handed}
-use Rattle.sets.specs.declared.counter.Handed.TheVariants.{Numbers, Spent}
 
-pub handed_numbers : (k : ℕ) → k ≤ 16381 → handed k ≡ Numbers (fresh k)
+pub handed_numbers : (k : ℕ) → k ≤ 16381 → handed k ≡ Some (fresh k)
 handed_numbers k h = rw (le-ltb 16381 k h)
 
-pub handed_spent : (k : ℕ) → 16381 < k → handed k ≡ Spent
+pub handed_spent : (k : ℕ) → 16381 < k → handed k ≡ None
 handed_spent k h = rw (lt-ltb 16381 k h)
 
 -- "three numbers from the path's counter ..: head, tail, atom"

@@ -2,7 +2,7 @@
 ghost use Rattle.std.specs.Prelude.{◌≡◌};
 ghost use Rattle.sets.specs.Twins.Counting.{handed};
 
-// The first number that has not been handed out.
+// The first number that has not been handed out. Not Copy: what `take` was given is gone, so that no number is handed out twice.
 #[derive(Drop)]
 pub struct Counter {
     pub next: u16,
@@ -17,25 +17,19 @@ pub struct Fresh {
     pub next: Counter,
 }
 
-// Spent: a variable of the next number would have no code. No walk of at most 1,000 transitions (01, "The walk") comes near it.
-#[derive(Drop)]
-pub enum Handed {
-    Numbers(Fresh),
-    Spent,
-}
-
 impl Counter {
     // The last number from which three can be handed out: 4 * 16,383 + 3 is the last code.
     pub const LAST: u16 = 16381;
 
-    pub fn take(self) -> Handed
+    // None: a variable of the next number would have no code. No walk of at most 1,000 transitions (01, "The walk") comes near it.
+    pub fn take(self) -> Option<Fresh>
         ensures { result ≡ handed self.next }
     {
         let k = self.next;
         if Counter::LAST < k {
-            return Handed::Spent;
+            return None;
         }
-        Handed::Numbers(Fresh {
+        Some(Fresh {
             head: k,
             tail: k + 1,
             atom: k + 2,

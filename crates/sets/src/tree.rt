@@ -2,8 +2,6 @@
 ghost use Rattle.std.specs.Prelude.{◌≡◌, ◌+◌, ◌≤◌, length};
 ghost use Rattle.sets.specs.Twins.Copying.{copied, one_pair, four_pairs, behind_four, tree_end, stands_in};
 
-use cells::cell;
-
 // The code of a pair: its two trees follow.
 pub const PAIR: u16 = 4;
 
@@ -11,23 +9,10 @@ pub const PAIR: u16 = 4;
 pub fn copy(src: &[u16], from: usize, n: usize, dst: &mut [u16], at: usize) -> bool
     ensures { let w = copied src.now from n dst.old at in (result ≡ w.done) × (dst.new ≡ w.cells) }
 {
-    if src.len() < from {
+    if src.len() < from || src.len() - from < n || dst.len() < at || dst.len() - at < n {
         return false;
     }
-    if src.len() - from < n {
-        return false;
-    }
-    if dst.len() < at {
-        return false;
-    }
-    if dst.len() - at < n {
-        return false;
-    }
-    let mut i: usize = 0;
-    while i < n {
-        dst[at + i] = src[from + i];
-        i += 1;
-    }
+    dst[at..at + n].copy_from_slice(&src[from..from + n]);
     true
 }
 
@@ -35,7 +20,7 @@ pub fn copy(src: &[u16], from: usize, n: usize, dst: &mut [u16], at: usize) -> b
 fn is_pair(code: u16) -> u16
     ensures { (result ≡ one_pair code) × (result ≤ 1) }
 {
-    if code == PAIR { 1 } else { 0 }
+    u16::from(code == PAIR)
 }
 
 // How many of the four cells from i on are pairs.
@@ -44,7 +29,7 @@ fn pairs(s: &[u16], i: usize) -> usize
     ensures { (result ≡ four_pairs s.now i) × (result ≤ 4) }
 {
     let n = is_pair(s[i]) + is_pair(s[i + 1]) + is_pair(s[i + 2]) + is_pair(s[i + 3]);
-    n as usize
+    usize::from(n)
 }
 
 // How many trees are needed behind the next four cells, where they are there and the needed ones do not end in them; else 0. Without a
@@ -53,10 +38,7 @@ fn behind_four(s: &[u16], i: usize, need: usize) -> usize
     requires { need ≤ i + 1 }
     ensures { result ≡ behind_four s.now i need }
 {
-    if s.len() < 4 {
-        return 0;
-    }
-    if s.len() - 4 < i {
+    if s.len() < 4 || s.len() - 4 < i {
         return 0;
     }
     let p = pairs(s, i);
@@ -96,13 +78,11 @@ pub fn tree_end(s: &[u16], at: usize) -> usize
 pub fn stands_in(s: &[u16], from: usize, to: usize, x: u16) -> bool
     ensures { result ≡ stands_in s.now from to x }
 {
-    let end = cell::least(to, s.len());
-    let mut i = from;
-    while i < end {
+    let end = to.min(s.len());
+    for i in from..end {
         if s[i] == x {
             return true;
         }
-        i += 1;
     }
     false
 }

@@ -17,16 +17,17 @@ use Rattle.language.specs.Source.{SExp, exp, at_of}
 use Rattle.language.specs.ProgramCheck.{reach_e, reach_ea}
 use Rattle.syntax.specs.Twins.Standing.{WordAt, NameAt, ExpAt, symbol_at, cons_at, ExpsAt, ParamsAt}
 use Rattle.syntax.specs.Twins.Standing as at
-use Rattle.verdicts.specs.declared.found.Verdict.{Verdict}
-use Rattle.verdicts.specs.declared.found.Verdict.TheVariants.{Fine, Fault}
+use Rattle.verdicts.specs.Twins.Found.{Verdict, fine}
+use Rattle.refusals.specs.Faults.{fault}
+use Rattle.std.specs.Prelude.{Ok, Err}
 use Rattle.verdicts.specs.declared.found.Walked.{Walked}
 use Rattle.checker.specs.declared.check.Names.{Names}
 use Rattle.checker.specs.Twins.CheckAt.{first, judge, ahead, walked, arguments, in_reach, leaf_at, pair_at, pick, exp_at, atomic_at, ea_at, arg_at, args_at}
 
 -- a verdict of the meaning as the code has it
 abbrev pub coded : bytes.Verdict → Verdict
-coded none = Fine
-coded (some r) = Fault r.number r.at
+coded none = fine
+coded (some r) = fault r.number r.at
 
 pub coded_first : (a b : bytes.Verdict) → coded (a or_else b) ≡ first (coded a) (coded b)
 coded_first none b = refl
@@ -36,13 +37,13 @@ pub coded_judge : (b : Bool) (m o : ℕ) → coded (unless b m o) ≡ judge b m 
 coded_judge true m o = refl
 coded_judge false m o = refl
 
-pub first_fine : (v : Verdict) → first v Fine ≡ v
-first_fine Fine = refl
-first_fine (Fault m o) = refl
+pub first_fine : (v : Verdict) → first v fine ≡ v
+first_fine (Ok u) = refl
+first_fine (Err r) = refl
 
 pub first_assoc : (u v w : Verdict) → first (first u v) w ≡ first u (first v w)
-first_assoc Fine v w = refl
-first_assoc (Fault m o) v w = refl
+first_assoc (Ok u) v w = refl
+first_assoc (Err r) v w = refl
 
 pub ahead_in : (n k i : ℕ) → i + k ≤ n → ahead n k i ≡ i + k
 ahead_in n k i h =
@@ -95,11 +96,11 @@ module _ (tok : ℕ → Token) (n : ℕ) where
   exp_leaf (suc room) sc i b = rw b
 
   pair_at_lem : (again : ℕ → Walked) (i j k : ℕ) → i + 2 ≤ n → k + 1 ≤ n → (again (i + 2)).past ≡ j → (again j).past ≡ k →
-      pair_at keys kinds nums ats n again i ≡ walked (k + 1) Fine Fine (first (again (i + 2)).uses (again j).uses)
+      pair_at keys kinds nums ats n again i ≡ walked (k + 1) fine fine (first (again (i + 2)).uses (again j).uses)
   pair_at_lem again i j k a b p q = rw (ahead_in n 2 i a, p, q, ahead_in n 1 k b)
 
   pub exp_opened : (room : ℕ) (sc : Names) (i j k : ℕ) → WordAt tok n "(" i → WordAt tok n "cons" (i + 1) → WordAt tok n ")" k → (exp_of room sc (i + 2)).past ≡ j → (exp_of room sc j).past ≡ k →
-      exp_of (suc room) sc i ≡ walked (k + 1) Fine Fine (first (exp_of room sc (i + 2)).uses (exp_of room sc j).uses)
+      exp_of (suc room) sc i ≡ walked (k + 1) fine fine (first (exp_of room sc (i + 2)).uses (exp_of room sc j).uses)
   unfolding exp_at
   exp_opened room sc i j k o w e p q =
       let a = w.below in let b = e.below in

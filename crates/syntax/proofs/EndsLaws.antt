@@ -1,4 +1,4 @@
--- What the brackets say is where an expression, a condition or a term ends (specs/twins/Ends.antt, specs/twins/Placed.antt).
+-- What the brackets say is where an expression, a condition or a term ends (specs/Twins/Ends.antt, specs/Twins/Placed.antt).
 use Prim.Native.Nat.{ℕ, zero, suc, ◌+◌, ◌-◌, ◌≤◌, ◌<◌}
 use Prim.Native.String.{String}
 use mathlib.Core.Path.{◌≡◌, refl, subst, ◌∙◌}

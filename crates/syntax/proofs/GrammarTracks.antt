@@ -13,14 +13,14 @@ use Rattle.syntax.proofs.Advances.{Advances, fewer, give_advances, bind_advances
 use Rattle.language.specs.Source.{Stand, SExp, sym_s, evar_s, avar_s, pair_s, SCondition, eqa_s, consp_s, STerm, call_s, conditional_s, result_s, SParam, SDef, SJob}
 use Rattle.language.specs.Grammar.{standing, word, or_word, leaf, leaf_d, cons_at, tree, expr, datum, args, condition, form, term, parameter, parameters, definition, is_end, definitions, program, sides, part, job_text}
 use Rattle.syntax.proofs.GrammarAdvances.{takes, word_advances, tree_advances, leaf_advances, leaf_d_advances, expr_advances, datum_advances, args_advances, condition_advances, term_advances, cons_advances, parameter_advances, parameters_advances, definition_advances, definitions_advances, sides_advances, part_advances}
-use Rattle.words.specs.declared.got.Got.{Got}
-use Rattle.words.specs.declared.got.Got.TheVariants.{Past}
+use Rattle.refusals.specs.declared.refusal.Refusal.{Refusal}
+use Rattle.std.specs.Prelude.{Result, Ok}
 use Rattle.grammar.specs.Twins.Positions.{nothing, take_p, seq_p, wrong_p, choose_p, up_to_p}
 use Rattle.grammar.specs.Twins.Positions as at
 use Rattle.syntax.proofs.Tracks.{token_at, Tracks, give_tracks, wrong_tracks, take_tracks, choose_tracks, bind_tracks, then_tracks, last_tracks, up_to_tracks}
 
 module _ (ts : List Token) where
-  or_word_tracks : (k : Kind) → is_a k nothing ≡ false → (f : Stand → SExp) (m : Reader SExp) (p : ℕ → Got) → Tracks ts m p → Tracks ts (or_word k f m) (at.or_word_p (token_at ts) (length ts) k p)
+  or_word_tracks : (k : Kind) → is_a k nothing ≡ false → (f : Stand → SExp) (m : Reader SExp) (p : ℕ → Result ℕ Refusal) → Tracks ts m p → Tracks ts (or_word k f m) (at.or_word_p (token_at ts) (length ts) k p)
   or_word_tracks k z f m p h = choose_tracks ts (is_a k) z (word k >>= λ x. give (f x)) m (at.word_p (token_at ts) (length ts) k) p
       (last_tracks ts (word k) f (at.word_p (token_at ts) (length ts) k) (fewer 0 1 (word k) (omega arith) (word_advances k))
       (last_tracks ts (take (one_fit 1 k)) _ (at.word_p (token_at ts) (length ts) k) (takes _) (take_tracks ts (one_fit 1 k) (ap (λ b. cond b broken broken) z)))) h
@@ -46,11 +46,11 @@ module _ (ts : List Token) where
   closing : {B : Type 0} (w : String) → is w nothing ≡ false → (b : B) → Tracks ts (the w >> give b) (at.the_p (token_at ts) (length ts) w)
   closing w z b = last_tracks ts (the w) (λ t. b) (at.the_p (token_at ts) (length ts) w) (takes _) (the_tracks w z)
 
-  cons_tracks : (o : ℕ) (item : Reader SExp) (p : ℕ → Got) → Advances 0 item → Tracks ts item p → Tracks ts (cons_at o item) (at.cons_p (token_at ts) (length ts) p)
+  cons_tracks : (o : ℕ) (item : Reader SExp) (p : ℕ → Result ℕ Refusal) → Advances 0 item → Tracks ts item p → Tracks ts (cons_at o item) (at.cons_p (token_at ts) (length ts) p)
   cons_tracks o item p a h = then_tracks ts (the "cons") _ (at.the_p (token_at ts) (length ts) "cons") _ (takes _) (the_tracks "cons" refl)
       (bind_tracks ts item _ p _ a h (λ c. bind_tracks ts item _ p (at.the_p (token_at ts) (length ts) ")") a h (λ d. closing ")" refl (pair_s o c d))))
 
-  tree_tracks : (m : Reader SExp) (p : ℕ → Got) → Advances 1 m → Tracks ts m p → (room : ℕ) → Tracks ts (tree m room) (at.tree_p (token_at ts) (length ts) p room)
+  tree_tracks : (m : Reader SExp) (p : ℕ → Result ℕ Refusal) → Advances 1 m → Tracks ts m p → (room : ℕ) → Tracks ts (tree m room) (at.tree_p (token_at ts) (length ts) p room)
   unfolding tree at.tree_p
   tree_tracks m p a h zero = choose_tracks ts (is "(") refl (the_in 0 "(" >> wrong) m _ p
       (then_tracks ts (the_in 0 "(") wrong _ (wrong_p (token_at ts)) (takes _) (the_in_tracks 0 "(" refl) (wrong_tracks ts SExp)) h
@@ -97,7 +97,7 @@ module _ (ts : List Token) where
       either : Reader SCondition
       either = choose (is "eqa?") one two
 
-      either_p : ℕ → Got
+      either_p : ℕ → Result ℕ Refusal
       either_p = choose_p (token_at ts) (is "eqa?") (seq_p (at.the_p (token_at ts) (length ts) "eqa?") (seq_p (at.expr_p (token_at ts) (length ts) room) (at.expr_p (token_at ts) (length ts) room)))
           (seq_p (at.the_p (token_at ts) (length ts) "cons?") (seq_p (at.expr_p (token_at ts) (length ts) room) (seq_p (at.word_p (token_at ts) (length ts) ename) (seq_p (at.word_p (token_at ts) (length ts) ename) (at.word_p (token_at ts) (length ts) aname)))))
 
@@ -118,7 +118,7 @@ module _ (ts : List Token) where
           (then_advances 0 0 (the "cons?") _ (takes _) (bind_advances 0 0 (expr room) _ (some_expr room) (λ c. bind_advances 0 0 (word ename) _ (some_word ename)
           (λ h. bind_advances 0 0 (word ename) _ (some_word ename) (λ t. bind_advances 0 0 (word aname) _ (some_word aname) (λ x. give_advances _))))))
 
-  form_tracks : (room : ℕ) (again : Reader STerm) (p : ℕ → Got) → Advances 0 again → Tracks ts again p → (o : Token) → Tracks ts (form room again o) (at.form_p (token_at ts) (length ts) room p)
+  form_tracks : (room : ℕ) (again : Reader STerm) (p : ℕ → Result ℕ Refusal) → Advances 0 again → Tracks ts again p → (o : Token) → Tracks ts (form room again o) (at.form_p (token_at ts) (length ts) room p)
   form_tracks room again p a h o =
       choose_tracks ts (is "call") refl _ _ _ _
       (then_tracks ts (the "call") _ (at.the_p (token_at ts) (length ts) "call") _ (takes _) (the_tracks "call" refl)
@@ -149,9 +149,9 @@ module _ (ts : List Token) where
 
   parameters_tracks : (room : ℕ) → Tracks ts (parameters room) (at.parameters_p (token_at ts) (length ts) room)
   unfolding parameters at.parameters_p
-  parameters_tracks zero = choose_tracks ts (is "]") refl _ _ Past _ (give_tracks ts {A = List SParam} [])
+  parameters_tracks zero = choose_tracks ts (is "]") refl _ _ Ok _ (give_tracks ts {A = List SParam} [])
       (then_tracks ts (parameter 0) wrong _ (wrong_p (token_at ts)) (some_parameter 0) (parameter_tracks 0) (wrong_tracks ts (List SParam)))
-  parameters_tracks (suc room) = choose_tracks ts (is "]") refl _ _ Past _ (give_tracks ts {A = List SParam} [])
+  parameters_tracks (suc room) = choose_tracks ts (is "]") refl _ _ Ok _ (give_tracks ts {A = List SParam} [])
       (bind_tracks ts (parameter 1) _ _ (λ k. at.parameters_p (token_at ts) (length ts) room k) (some_parameter 1) (parameter_tracks 1) (λ x.
       last_tracks ts (λ us. parameters room us) (λ xs. x ∷ xs) (λ k. at.parameters_p (token_at ts) (length ts) room k) (parameters_advances room) (parameters_tracks room)))
 
@@ -171,9 +171,9 @@ module _ (ts : List Token) where
 
   definitions_tracks : (room : ℕ) → Tracks ts (definitions room) (at.definitions_p (token_at ts) (length ts) room)
   unfolding definitions at.definitions_p
-  definitions_tracks zero = choose_tracks ts is_end refl _ _ Past _ (give_tracks ts {A = List SDef} [])
+  definitions_tracks zero = choose_tracks ts is_end refl _ _ Ok _ (give_tracks ts {A = List SDef} [])
       (then_tracks ts (definition 0) wrong _ (wrong_p (token_at ts)) (some_definition 0) (definition_tracks 0) (wrong_tracks ts (List SDef)))
-  definitions_tracks (suc room) = choose_tracks ts is_end refl _ _ Past _ (give_tracks ts {A = List SDef} [])
+  definitions_tracks (suc room) = choose_tracks ts is_end refl _ _ Ok _ (give_tracks ts {A = List SDef} [])
       (bind_tracks ts (definition 1) _ _ (λ k. at.definitions_p (token_at ts) (length ts) room k) (some_definition 1) (definition_tracks 1) (λ d.
       last_tracks ts (λ us. definitions room us) (λ ds. d ∷ ds) (λ k. at.definitions_p (token_at ts) (length ts) room k) (definitions_advances room) (definitions_tracks room)))
 
@@ -182,7 +182,7 @@ module _ (ts : List Token) where
   program_tracks = bind_tracks ts (definition 1) _ (at.definition_p (token_at ts) (length ts) 1) (at.definitions_p (token_at ts) (length ts) 63) (some_definition 1) (definition_tracks 1)
       (λ d. last_tracks ts (definitions 63) (λ ds. record { main = d; others = ds }) (at.definitions_p (token_at ts) (length ts) 63) (definitions_advances 63) (definitions_tracks 63))
 
-  part_tracks : {A : Type 0} (w : String) → is w nothing ≡ false → (m : Reader A) (p : ℕ → Got) → Advances 0 m → Tracks ts m p → Tracks ts (part w m) (at.part_p (token_at ts) (length ts) w p)
+  part_tracks : {A : Type 0} (w : String) → is w nothing ≡ false → (m : Reader A) (p : ℕ → Result ℕ Refusal) → Advances 0 m → Tracks ts m p → Tracks ts (part w m) (at.part_p (token_at ts) (length ts) w p)
   part_tracks w z m p a h = then_tracks ts (the "(") _ (at.the_p (token_at ts) (length ts) "(") _ (takes _) (the_tracks "(" refl)
       (bind_tracks ts (the w) _ (at.the_p (token_at ts) (length ts) w) _ (takes _) (the_tracks w z) (λ t.
       bind_tracks ts m _ p (at.the_p (token_at ts) (length ts) ")") a h (λ b. closing ")" refl (t.at, b))))
@@ -213,4 +213,4 @@ module _ (ts : List Token) where
       bind_tracks ts (part "walk" (word plain)) _ _ _ (part_advances "walk" _ (some_word plain)) (part_tracks "walk" refl _ _ (some_word plain) (word_tracks plain refl)) (λ w.
       bind_tracks ts (part "table" (word plain)) _ _ _ (part_advances "table" _ (some_word plain)) (part_tracks "table" refl _ _ (some_word plain) (word_tracks plain refl)) (λ t.
       then_tracks ts (the ")") _ _ _ (takes _) (the_tracks ")" refl)
-      (choose_tracks ts is_end refl _ _ Past (wrong_p (token_at ts)) (give_tracks ts {A = SJob} (record { in_at = i.0; ins = i.1; out = o.1; neqs = q.1; steps = m.1; walk = w.1; table = t.1 })) (wrong_tracks ts SJob))))))))))
+      (choose_tracks ts is_end refl _ _ Ok (wrong_p (token_at ts)) (give_tracks ts {A = SJob} (record { in_at = i.0; ins = i.1; out = o.1; neqs = q.1; steps = m.1; walk = w.1; table = t.1 })) (wrong_tracks ts SJob))))))))))

@@ -1,4 +1,4 @@
--- The check of a job by position finds what the check of what was read finds: `job-checked`.
+-- The check of a job by position finds what the check of what was read finds: `job_checked`.
 use Prim.Native.Nat.{ℕ, zero, suc, ◌+◌, ◌-◌, ◌≤◌, ◌<◌}
 use Prim.Native.String.{String}
 use mathlib.Core.Path.{◌≡◌, refl, ap, ap₂, subst, ◌∙◌, sym as inv}
@@ -23,8 +23,7 @@ use Rattle.language.specs.Source.{SExp, sym_s, pair_s, SParam, SJob, exp, exps, 
 use Rattle.language.specs.JobCheck.{Tool, lister, runner, ground_verdict, variables, kinds_verdict, stands_in, stands_in_any, side_fits, sides_verdict, job_verdict}
 use Rattle.syntax.specs.Twins.Standing.{WordAt, NameAt, ExpAt, symbol_at, cons_at, ExpsAt, ParamsAt, SidesAt, JobAt, job_at}
 use Rattle.syntax.specs.Twins.Standing as at
-use Rattle.verdicts.specs.declared.found.Verdict.{Verdict}
-use Rattle.verdicts.specs.declared.found.Verdict.TheVariants.{Fine}
+use Rattle.verdicts.specs.Twins.Found.{Verdict, fine}
 use Rattle.verdicts.specs.declared.found.Walked.{Walked}
 use Rattle.checker.specs.Twins.CheckAt.{first, judge, ahead, walked, arguments}
 use Rattle.job_checker.specs.Twins.JobCheckAt as check
@@ -53,7 +52,7 @@ module _ (tok mtok : ℕ → Token) (n m : ℕ) (tool : Tool) where
   datum_leaf_lem (suc room) i b = rw b
 
   datum_opened : (room i j k : ℕ) → WordAt tok n "(" i → WordAt tok n "cons" (i + 1) → WordAt tok n ")" k → (datum_of room (i + 2)).past ≡ j → (datum_of room j).past ≡ k →
-      datum_of (suc room) i ≡ walked (k + 1) Fine Fine (first (datum_of room (i + 2)).uses (datum_of room j).uses)
+      datum_of (suc room) i ≡ walked (k + 1) fine fine (first (datum_of room (i + 2)).uses (datum_of room j).uses)
   unfolding datum_at
   datum_opened room i j k o w e p q =
       let a = w.below in let b = e.below in
@@ -131,7 +130,7 @@ module _ (tok mtok : ℕ → Token) (n m : ℕ) (tool : Tool) (num val : ℕ →
   datum_uses : {room i : ℕ} {c : SExp} {k : ℕ} → ExpAt tok n of_job room i c k → (datum_of tok mtok n m tool room i).uses ≡ coded (variables tool c)
   datum_uses {room} {i} (symbol_at b x) = leaf_uses tok mtok n m tool room i true b x.kind ∙ none_found tool
     where
-      none_found : (t : Tool) → Fine ≡ coded (variables t (sym_s (record { at = (tok i).at; num = (tok i).num })))
+      none_found : (t : Tool) → fine ≡ coded (variables t (sym_s (record { at = (tok i).at; num = (tok i).num })))
       none_found lister = refl
       none_found runner = refl
   datum_uses {room} {i} (at.ExpAt.e_at b x) = leaf_uses tok mtok n m tool room i false b (is_a_other evariable symbol (tok i) x.kind) ∙ variable_found tool (tok i).at _ refl
@@ -296,7 +295,7 @@ module _ (tok mtok : ℕ → Token) (n m : ℕ) (tool : Tool) (num val : ℕ →
     sides_bounds (at.SidesAt.more_at b o x y z qs) = let w = sides_bounds qs in let x0 = exp_least x in let y0 = exp_least y in let w0 = w.0 in (omega arith, w.1)
 
     sides_at_lem : {i : ℕ} {qs : List (SExp × SExp)} {k : ℕ} (f : ℕ) (v : Verdict) → SidesAt tok n i qs k → k - i < f →
-        sides_at (keys tok n) (kinds tok n) num (ats tok n) n (is_runner tool) f (marked_to end) v i ≡ walked k Fine Fine (first v (coded (sides_verdict cs qs)))
+        sides_at (keys tok n) (kinds tok n) num (ats tok n) n (is_runner tool) f (marked_to end) v i ≡ walked k fine fine (first v (coded (sides_verdict cs qs)))
     unfolding sides_at check.two_sides
     sides_at_lem zero v x l = let z : ⊥ = omega arith in absurd z
     sides_at_lem {i} (suc f) v (at.SidesAt.none_at x) l = rw (x.key, first_fine)
@@ -352,11 +351,11 @@ module _ (tok mtok : ℕ → Token) (n m : ℕ) (tool : Tool) (num val : ℕ →
       let twelves : bytes.Verdict = unless (leb (tok (c + 3)).num 1000) 12 (tok (c + 3)).at or_else unless (leb (tok (c + 7)).num 1000000) 12 (tok (c + 7)).at or_else unless (leb (tok (c + 11)).num 256) 12 (tok (c + 11)).at in
       let l1 : a - 4 < n = omega arith in let l2 : c - (b + 3) < n = omega arith in
       rw (
-        inputs_at_lem n p true Fine is l1,
+        inputs_at_lem n p true fine is l1,
         ahead_in n 3 a (omega arith),
         datum_past tok mtok n m tool y,
         ahead_in n 3 b (omega arith),
-        sides_at_lem cs b h n Fine qs l2,
+        sides_at_lem cs b h n fine qs l2,
         ahead_in n 3 c (omega arith),
         ahead_in n 7 c (omega arith),
         ahead_in n 11 c (omega arith),

@@ -15,7 +15,8 @@ use Rattle.language.specs.Source.{SDef, SProg, SJob, params}
 use Rattle.language.specs.Grammar.{job_text}
 use Rattle.language.specs.JobCheck.{Tool, job_verdict}
 use Rattle.language.specs.Reading.{read_job}
-use Rattle.words.specs.declared.got.Got.TheVariants.{Past, Refused}
+use Rattle.std.specs.Prelude.{Ok, Err}
+use Rattle.refusals.specs.declared.refusal.Refusal.{Refusal}
 use Rattle.grammar.specs.Twins.Positions.{on_past}
 use Rattle.grammar.specs.Twins.Stored as stored
 use Rattle.checker.specs.Twins.StoredAt.{key_at, tag_at, num_at, at_at}
@@ -192,12 +193,12 @@ module _ (first text marks nums ats symbols names : List ℕ) (zs : List Word) (
     job_answer_lem = text_answer of_job 8192 job_text (job_verdict tool (params p.main.params)) zs text _ _ stored_read found cut_job.i
 
     -- its steps: the bytes, and what is behind them
-    pub job_judged_lem : (i : ℕ) → bytes_at 8192 text ≡ Past i →
+    pub job_judged_lem : (i : ℕ) → bytes_at 8192 text ≡ Ok i →
         (k : ℕ) × (on_past (verdict_got (check.job_at cut_job.marks cut_job.nums cut_job.ats cut_job.i (is_runner tool) text main m)) (stored.job_at cut_job.marks cut_job.ats 0) ≡ res_got (read_job tool p zs text) k)
     unfolding read_job
     job_judged_lem = text_judged of_job 8192 job_text (job_verdict tool (params p.main.params)) zs text _ _ stored_read found
 
-  pub job_bytes_lem : (tool : Tool) (p : SProg) (number offset : ℕ) → bytes_at 8192 text ≡ Refused number offset → read_job tool p zs text ≡ refuse number offset
+  pub job_bytes_lem : (tool : Tool) (p : SProg) (r : Refusal) → bytes_at 8192 text ≡ Err r → read_job tool p zs text ≡ refuse r.number r.offset
   unfolding read_job
   job_bytes_lem tool p = text_refused of_job 8192 job_text (job_verdict tool (params p.main.params)) zs text
 

@@ -1,4 +1,4 @@
--- A job that was read stands in its tokens as specs/twins/Standing.antt says.
+-- A job that was read stands in its tokens as specs/Twins/Standing.antt says.
 use Prim.Native.Nat.{ℕ, ◌+◌}
 use Prim.Native.String.{String}
 use mathlib.Core.Path.{◌≡◌, refl}

@@ -1,4 +1,4 @@
--- What the brackets say is where the parts of a job stand (specs/twins/PartEnds.antt).
+-- What the brackets say is where the parts of a job stand (specs/Twins/PartEnds.antt).
 use Prim.Native.Nat.{ℕ, suc, ◌+◌, ◌-◌, ◌≤◌, ◌<◌}
 use Prim.Native.String.{String}
 use mathlib.Core.Path.{◌≡◌, refl}

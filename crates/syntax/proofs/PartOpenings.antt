@@ -1,8 +1,9 @@
 -- One level of the ends and of the heads opened, by the tests of the code.
-use Prim.Native.Nat.{ℕ, ◌+◌, ◌-◌, ◌≤◌, ◌<◌}
+use Prim.Native.Nat.{ℕ, ◌+◌, ◌-◌, ◌≤◌, ◌<◌, max}
 use mathlib.Core.Path.{◌≡◌}
 use mathlib.Core.Bool.{true, false}
 use mathlib.Core.List.{List}
+use native.Mathlib.Omega.{arith}
 use lib.ListN.{get_or, set}
 use borrow.Author.Tests.{le-leb, lt-leb}
 use Rattle.words.specs.Twins.Marks.{cell_of}
@@ -12,9 +13,9 @@ use Rattle.checker.proofs.CheckOpenings.{counted_out, counted_on}
 
 -- one token on in the search for a closing bracket
 module _ (key : ℕ → ℕ) (n d i : ℕ) where
-  pub close_end : n ≤ i → close_from key (n - i) d i ≡ i
+  pub close_end : {from : ℕ} → n ≤ i → from ≤ i → i ≤ max from n → close_from key (n - i) d i ≡ max from n
   unfolding close_from
-  close_end l = rw (counted_out n i l)
+  close_end {from} l f h = let e : i ≡ max from n = omega arith in rw (counted_out n i l, e)
 
   module _ (l : i < n) where
     pub close_deeper : opens key i ≡ true → close_from key (n - i) d i ≡ close_from key (n - (i + 1)) (d + 1) (i + 1)

@@ -1,4 +1,4 @@
--- What stands in the tokens of a program is placed there as specs/twins/Placed.antt says; what the first tokens of a term say of it.
+-- What stands in the tokens of a program is placed there as specs/Twins/Placed.antt says; what the first tokens of a term say of it.
 use Prim.Native.Nat.{ℕ, ◌+◌}
 use mathlib.Core.List.{List}
 use native.Mathlib.Nat.{add_assoc}

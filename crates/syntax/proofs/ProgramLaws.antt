@@ -1,4 +1,4 @@
--- The check by position on definitions and on a program: `program-checked`.
+-- The check by position on definitions and on a program: `program_checked`.
 use Prim.Native.Nat.{ℕ, zero, suc, ◌+◌, ◌≤◌, ◌<◌}
 use mathlib.Core.Path.{◌≡◌, refl, ap, ap₂, ◌∙◌, sym as inv}
 use mathlib.Core.Bool.{Bool, true, false, cond, ◌&&◌, ◌||◌, not}
@@ -22,8 +22,8 @@ use Rattle.language.specs.ProgramCheck.{term_twice, defs_twice, term_rebound, de
 use Rattle.language.specs.ProgramCheck as meaning
 use Rattle.syntax.specs.Twins.Standing.{WordAt, NameAt, ConditionAt, eqa_at, consp_at, TermAt, call_at, if_at, result_at, ParamsAt, DefAt, define_at, DefsAt, HeadsAt, DefsFrom, ProgramAt}
 use Rattle.syntax.specs.Twins.Standing as at
-use Rattle.verdicts.specs.declared.found.Verdict.{Verdict}
-use Rattle.verdicts.specs.declared.found.Verdict.TheVariants.{Fine, Fault}
+use Rattle.verdicts.specs.Twins.Found.{Verdict, fine}
+use Rattle.refusals.specs.Faults.{fault}
 use Rattle.checker.specs.declared.check.Names.{Names}
 use Rattle.checker.specs.declared.check.Defs.{Defs}
 use Rattle.checker.specs.declared.check.Bodies.{Bodies}
@@ -60,7 +60,7 @@ module _ (tok : ℕ → Token) (n : ℕ) where
   twice room sc i = params_twice (keys tok n) (kinds tok n) (nums tok n) (ats tok n) n room sc i
 
   -- one parameter, and then the rest
-  twice_step : (b : Bool) (o : ℕ) (u : Verdict) (v : bytes.Verdict) → u ≡ coded v → cond b (Fault 6 o) u ≡ coded (unless (not b) 6 o or_else v)
+  twice_step : (b : Bool) (o : ℕ) (u : Verdict) (v : bytes.Verdict) → u ≡ coded v → cond b (fault 6 o) u ≡ coded (unless (not b) 6 o or_else v)
   twice_step true o u v e = refl
   twice_step false o u v e = e
 
@@ -314,7 +314,7 @@ program_checked tok n s x =
     rw (
       a.names,
       a.count,
-      bodies_at_lem tok n a.heads Fine Fine a.heads,
+      bodies_at_lem tok n a.heads fine fine a.heads,
       coded_first (defs_twice [] (defs s)),
       coded_first (defs_rebound (defs s)),
     )

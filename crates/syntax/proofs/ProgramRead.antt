@@ -13,7 +13,8 @@ use Rattle.language.specs.Source.{SProg}
 use Rattle.language.specs.Grammar.{program}
 use Rattle.language.specs.ProgramCheck.{program_verdict}
 use Rattle.language.specs.Reading.{read_program}
-use Rattle.words.specs.declared.got.Got.TheVariants.{Past, Refused}
+use Rattle.std.specs.Prelude.{Ok, Err}
+use Rattle.refusals.specs.declared.refusal.Refusal.{Refusal}
 use Rattle.grammar.specs.Twins.Positions.{on_past}
 use Rattle.grammar.specs.Twins.Stored as stored
 use Rattle.checker.specs.Twins.CheckStored as check
@@ -134,11 +135,11 @@ module _ (text marks nums ats symbols names : List ℕ) (marks_room : 4097 ≤ l
   program_answer_lem = text_answer of_program 32768 program program_verdict [] text _ _ stored_read program_checked cut_program.i
 
   -- its steps: the bytes, and what is behind them
-  pub program_bytes_lem : (number offset : ℕ) → bytes_at 32768 text ≡ Refused number offset → read_program text ≡ refuse number offset
+  pub program_bytes_lem : (r : Refusal) → bytes_at 32768 text ≡ Err r → read_program text ≡ refuse r.number r.offset
   unfolding read_program
   program_bytes_lem = text_refused of_program 32768 program program_verdict [] text
 
-  pub program_judged_lem : (i : ℕ) → bytes_at 32768 text ≡ Past i →
+  pub program_judged_lem : (i : ℕ) → bytes_at 32768 text ≡ Ok i →
       (k : ℕ) × (on_past (verdict_got (check.program_at cut_program.marks cut_program.nums cut_program.ats cut_program.i)) (stored.program_at cut_program.marks cut_program.ats 0) ≡ res_got (read_program text) k)
   unfolding read_program
   program_judged_lem = text_judged of_program 32768 program program_verdict [] text _ _ stored_read program_checked

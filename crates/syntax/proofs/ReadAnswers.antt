@@ -1,4 +1,4 @@
--- Reading over cells answers what reading the text comes to, where the reader and the check over the cells do (`text-answer`).
+-- Reading over cells answers what reading the text comes to, where the reader and the check over the cells do (`text_answer`).
 use Prim.Native.Nat.{ℕ, suc, ◌+◌, ◌-◌, ◌≤◌}
 use mathlib.Core.Path.{◌≡◌, refl, ap, ap₂, ◌∙◌, sym}
 use mathlib.Core.Bool.{Bool, true, false, cond, not}
@@ -9,15 +9,16 @@ use native.Mathlib.Numerals.{add-one}
 use lib.Dec.{leb, ltb}
 use lib.ListN.{length}
 use borrow.Author.Tests.{lt-ltb, le-ltb, leb-true}
-use Rattle.language.specs.Bytes.{byte_kind, is_outside, fault, outside_from, unless, ◌or_else◌, bytes_verdict}
+use Rattle.language.specs.Bytes.{byte_kind, is_outside, outside_from, unless, ◌or_else◌, bytes_verdict}
 use Rattle.language.specs.Bytes as bytes
 use Rattle.language.specs.Words.{Word}
 use Rattle.language.specs.Tokens.{Text, Token, tokens}
 use Rattle.language.specs.Reader.{Res, ok, refused, refuse, and_then, unless_fault, Reader}
 use Rattle.language.specs.Reading.{read_text}
-use Rattle.words.specs.declared.got.Got.{Got}
-use Rattle.words.specs.declared.got.Got.TheVariants.{Past, Refused}
-use Rattle.verdicts.specs.declared.found.Verdict.{Verdict}
+use Rattle.refusals.specs.declared.refusal.Refusal.{Refusal}
+use Rattle.std.specs.Prelude.{Result, Ok, Err}
+use Rattle.refusals.specs.Faults.{fault}
+use Rattle.verdicts.specs.Twins.Found.{Verdict}
 use Rattle.grammar.specs.Twins.Positions.{on_past}
 use Rattle.words.specs.Twins.Cutting.{scan, outside_at, sound_at, short_at, bytes_at}
 use Rattle.syntax.specs.Twins.ReadAnswer.{verdict_got, answer, res_got, bytes_got}
@@ -30,11 +31,11 @@ sound b = not (is_outside (byte_kind b))
 
 outside_from_lem : (o : ℕ) (bs : List ℕ) → sound_at (ltb (scan sound o bs) (o + length bs)) (scan sound o bs) ≡ bytes_got (outside_from o bs) (o + length bs)
 unfolding scan
-outside_from_lem o [] = ap (λ b. sound_at b o) (le-ltb o (o + 0) (omega arith)) ∙ ap Past (omega arith)
+outside_from_lem o [] = ap (λ b. sound_at b o) (le-ltb o (o + 0) (omega arith)) ∙ ap Ok (omega arith)
 outside_from_lem o (b ∷ bs) = go (is_outside (byte_kind b)) (outside_from_lem (suc o) bs)
   where
     go : (t : Bool) → sound_at (ltb (scan sound (suc o) bs) (suc o + length bs)) (scan sound (suc o) bs) ≡ bytes_got (outside_from (suc o) bs) (suc o + length bs) →
-        sound_at (ltb (cond (not t) (scan sound (o + 1) bs) o) (o + suc (length bs))) (cond (not t) (scan sound (o + 1) bs) o) ≡ bytes_got (cond t (fault 2 o) (outside_from (suc o) bs)) (o + suc (length bs))
+        sound_at (ltb (cond (not t) (scan sound (o + 1) bs) o) (o + suc (length bs))) (cond (not t) (scan sound (o + 1) bs) o) ≡ bytes_got (cond t (bytes.fault 2 o) (outside_from (suc o) bs)) (o + suc (length bs))
     go true again = ap (λ b. sound_at b o) (lt-ltb o (o + suc (length bs)) (omega arith))
     go false again = let n : o + suc (length bs) ≡ suc o + length bs = omega arith in rw (n, add-one o) again
 
@@ -57,10 +58,10 @@ passes_short limit bs e = go (leb (length bs) limit) refl e
     go true x z = leb-true (length bs) limit x
     go false x z = let y : ◌≡◌ {A = ℕ} 0 1 = cc in let n : ⊥ = omega arith in absurd n
 
-pub past_short : (limit : ℕ) (bs : List ℕ) (i : ℕ) → bytes_at limit bs ≡ Past i → bytes_verdict limit bs ≡ none
+pub past_short : (limit : ℕ) (bs : List ℕ) (i : ℕ) → bytes_at limit bs ≡ Ok i → bytes_verdict limit bs ≡ none
 past_short limit bs i e = go (bytes_verdict limit bs) (sym (bytes_found limit bs) ∙ e)
   where
-    go : (v : bytes.Verdict) → bytes_got v (length bs) ≡ Past i → v ≡ none
+    go : (v : bytes.Verdict) → bytes_got v (length bs) ≡ Ok i → v ≡ none
     go none z = refl
     go (some r) z = let y : ◌≡◌ {A = ℕ} 0 1 = cc in let n : ⊥ = omega arith in absurd n
 
@@ -69,18 +70,18 @@ module _ {A : Type 0} (text : Text) (limit : ℕ) (reader : Reader A) (check : A
   ts = tokens text before bs
 
   -- refused for its bytes
-  pub text_refused : (number offset : ℕ) → bytes_at limit bs ≡ Refused number offset → read_text text limit reader check before bs ≡ refuse number offset
-  text_refused number offset e = go (bytes_verdict limit bs) (sym (bytes_found limit bs) ∙ e)
+  pub text_refused : (f : Refusal) → bytes_at limit bs ≡ Err f → read_text text limit reader check before bs ≡ refuse f.number f.offset
+  text_refused f e = go (bytes_verdict limit bs) (sym (bytes_found limit bs) ∙ e)
     where
-      same : (r : bytes.Refusal) → Refused r.number r.at ≡ Refused number offset → ◌≡◌ {A = Res A} (refused r) (refuse number offset)
-      same r z = let x : r.number ≡ number = cc in let y : r.at ≡ offset = cc in ap₂ (λ n o. refuse n o) x y
+      same : (r : bytes.Refusal) → ◌≡◌ {A = Result ℕ Refusal} (fault r.number r.at) (Err f) → ◌≡◌ {A = Res A} (refused r) (refuse f.number f.offset)
+      same r z = let x : r.number ≡ f.number = cc in let y : r.at ≡ f.offset = cc in ap₂ (λ n o. refuse n o) x y
 
-      go : (v : bytes.Verdict) → bytes_got v (length bs) ≡ Refused number offset → and_then (unless_fault v bs) (λ bs. and_then (reader (tokens text before bs)) (λ r. unless_fault (check r.0) r.0)) ≡ refuse number offset
+      go : (v : bytes.Verdict) → bytes_got v (length bs) ≡ Err f → and_then (unless_fault v bs) (λ bs. and_then (reader (tokens text before bs)) (λ r. unless_fault (check r.0) r.0)) ≡ refuse f.number f.offset
       go none z = let y : ◌≡◌ {A = ℕ} 0 1 = cc in let n : ⊥ = omega arith in absurd n
       go (some r) z = same r z
 
   -- read and checked are what the reader and the check over the cells come to, of a text whose bytes pass
-  module _ (read : Got) (checked : Verdict) (reads : length bs ≤ limit → read ≡ got_of ts (reader ts)) (checks : length bs ≤ limit → (a : A) (rest : List Token) → reader ts ≡ ok (a, rest) → checked ≡ coded (check a)) where
+  module _ (read : Result ℕ Refusal) (checked : Verdict) (reads : length bs ≤ limit → read ≡ got_of ts (reader ts)) (checks : length bs ≤ limit → (a : A) (rest : List Token) → reader ts ≡ ok (a, rest) → checked ≡ coded (check a)) where
     -- what is behind the bytes; n is the number that an accepted text has
     abbrev Judged : (ℕ → ℕ) → Type 0
     Judged n = (k : ℕ) × (on_past (λ i. verdict_got checked (n i)) read ≡ res_got (and_then (reader ts) (λ r. unless_fault (check r.0) r.0)) (n k))
@@ -100,7 +101,7 @@ module _ {A : Type 0} (text : Text) (limit : ℕ) (reader : Reader A) (check : A
         go (refused r) z = (0, ap (on_past (λ i. verdict_got checked (n i))) (reads l ∙ ap (got_of ts) z))
 
     -- a text whose bytes pass: the index that an accepted one has is that of its end
-    pub text_judged : (i : ℕ) → bytes_at limit bs ≡ Past i → (k : ℕ) × (on_past (verdict_got checked) read ≡ res_got (read_text text limit reader check before bs) k)
+    pub text_judged : (i : ℕ) → bytes_at limit bs ≡ Ok i → (k : ℕ) × (on_past (verdict_got checked) read ≡ res_got (read_text text limit reader check before bs) k)
     text_judged i e =
         let p = past_short limit bs i e in
         let j = judged (passes_short limit bs p) (λ k. k) in

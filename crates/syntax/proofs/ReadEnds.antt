@@ -4,30 +4,30 @@ use mathlib.Core.Path.{◌≡◌, refl, ap, ◌∙◌, sym}
 use mathlib.Core.Bool.{Bool, true, false}
 use Rattle.language.specs.Tokens.{plain, Token}
 use Rattle.language.specs.Grammar.{is_end}
-use Rattle.words.specs.declared.got.Got.{Got}
-use Rattle.words.specs.declared.got.Got.TheVariants.{Past, Refused}
+use Rattle.refusals.specs.declared.refusal.Refusal.{Refusal}
+use Rattle.std.specs.Prelude.{Result, Ok, Err}
 use Rattle.grammar.specs.Twins.Positions as at
 use Rattle.grammar.specs.Twins.Positions.{on_past, seq_p, pick_p, wrong_p, choose_p, up_to_p}
 use Rattle.syntax.proofs.Shut.{past_inj, refused_past}
 
 module _ (tok : ℕ → Token) (n : ℕ) where
-  abbrev pub Ends : (ℕ → Got) → Type 0
-  Ends p = (i k : ℕ) → p i ≡ Past k → is_end (tok k) ≡ true
+  abbrev pub Ends : (ℕ → Result ℕ Refusal) → Type 0
+  Ends p = (i k : ℕ) → p i ≡ Ok k → is_end (tok k) ≡ true
 
-  ends_seq : (p q : ℕ → Got) → Ends q → Ends (seq_p p q)
+  ends_seq : (p q : ℕ → Result ℕ Refusal) → Ends q → Ends (seq_p p q)
   ends_seq p q h i k e = go (p i) e
     where
-      go : (g : Got) → on_past q g ≡ Past k → is_end (tok k) ≡ true
-      go (Past m) z = h m k z
-      go (Refused r o) z = refused_past r o k z
+      go : (g : Result ℕ Refusal) → on_past q g ≡ Ok k → is_end (tok k) ≡ true
+      go (Ok m) z = h m k z
+      go (Err r) z = refused_past r k z
 
   ends_wrong : Ends (wrong_p tok)
-  ends_wrong i k e = refused_past 3 (tok i).at k e
+  ends_wrong i k e = refused_past _ k e
 
-  ends_end : (q : ℕ → Got) → Ends q → Ends (choose_p tok is_end Past q)
+  ends_end : (q : ℕ → Result ℕ Refusal) → Ends q → Ends (choose_p tok is_end Ok q)
   ends_end q h i k e = go (is_end (tok i)) refl e
     where
-      go : (b : Bool) → is_end (tok i) ≡ b → pick_p b Past q i ≡ Past k → is_end (tok k) ≡ true
+      go : (b : Bool) → is_end (tok i) ≡ b → pick_p b Ok q i ≡ Ok k → is_end (tok k) ≡ true
       go true z x = ap (λ m. is_end (tok m)) (sym (past_inj i k x)) ∙ z
       go false z x = h i k x
 

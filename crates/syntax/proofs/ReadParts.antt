@@ -1,5 +1,5 @@
 -- What a reader read, by index: `Reads m R` says that R holds of the index where m began, of what it gave and of the index past it.
--- R is put together as the reader is, of the families below; proofs/Standing.antt turns them into those of specs/twins/Standing.antt.
+-- R is put together as the reader is, of the families below; proofs/Standing.antt turns them into those of specs/Twins/Standing.antt.
 use Prim.Native.Nat.{ℕ, zero, suc, ◌+◌, ◌≤◌, ◌<◌}
 use Prim.Native.String.{String}
 use mathlib.Core.Path.{◌≡◌, refl, ap, subst, ◌∙◌, sym as inv}

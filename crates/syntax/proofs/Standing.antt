@@ -1,4 +1,4 @@
--- What the grammar reads stands in the tokens as specs/twins/Standing.antt says: `program-stands` for a program.
+-- What the grammar reads stands in the tokens as specs/Twins/Standing.antt says: `program_stands` for a program.
 use Prim.Native.Nat.{ℕ, zero, suc, ◌+◌, ◌≤◌}
 use Prim.Native.String.{String}
 use mathlib.Core.Path.{◌≡◌, refl}

@@ -1,5 +1,5 @@
 -- The check of stored tokens: where the cells hold the tokens of a text that was read as a program, the code's check finds what the
--- check of that program finds (`stored-checked`), and its table holds the program's definitions (`stored-definitions`).
+-- check of that program finds (`stored_checked`), and its table holds the program's definitions (`stored_definitions`).
 use Prim.Native.Nat.{ℕ, ◌%◌, ◌≤◌}
 use mathlib.Core.Path.{◌≡◌, refl, ap, subst, ◌∙◌, fun_ext, sym as inv}
 use mathlib.Core.Bool.{Bool, true, false, cond}

@@ -18,8 +18,7 @@ use Rattle.language.specs.Source.{Stand, SExp, eqa_s, consp_s, STerm, call_s, co
 use Rattle.language.specs.ProgramCheck.{reach_e, reach_ea, reach_args, term_twice, new_e, new_a, term_rebound, term_verdict}
 use Rattle.syntax.specs.Twins.Standing.{WordAt, NameAt, ExpAt, symbol_at, cons_at, ExpsAt, ConditionAt, TermAt, call_at, if_at, result_at, ParamsAt, DefAt, define_at, HeadsAt}
 use Rattle.syntax.specs.Twins.Standing as at
-use Rattle.verdicts.specs.declared.found.Verdict.{Verdict}
-use Rattle.verdicts.specs.declared.found.Verdict.TheVariants.{Fine}
+use Rattle.verdicts.specs.Twins.Found.{Verdict, fine}
 use Rattle.verdicts.specs.declared.found.Walked.{Walked}
 use Rattle.checker.specs.declared.check.Names.{Names}
 use Rattle.checker.specs.Twins.CheckAt as check
@@ -141,7 +140,7 @@ module _ (tok : ℕ → Token) (n : ℕ) where
         term_form room sc i o.key ∙ rw (ahead_in n 1 i (omega arith), is_other_lem "cons" "call" (tok (i + 1)) w.key, is_other_lem "cons" "if" (tok (i + 1)) w.key, o.key)
 
     -- an e binds nothing
-    exp_binds : {room i : ℕ} {c : SExp} {k : ℕ} (sc : Names) → ExpAt tok n of_program room i c k → ((exp_of room sc i).names ≡ Fine) × ((exp_of room sc i).rebound ≡ Fine)
+    exp_binds : {room i : ℕ} {c : SExp} {k : ℕ} (sc : Names) → ExpAt tok n of_program room i c k → ((exp_of room sc i).names ≡ fine) × ((exp_of room sc i).rebound ≡ fine)
     exp_binds {room} {i} sc (symbol_at b x) = let e = exp_leaf tok n room sc i b in (ap (λ w. w.names) e, ap (λ w. w.rebound) e)
     exp_binds {room} {i} sc (at.ExpAt.e_at b x) = let e = exp_leaf tok n room sc i b in (ap (λ w. w.names) e, ap (λ w. w.rebound) e)
     exp_binds {room} {i} sc (at.ExpAt.a_at b x) = let e = exp_leaf tok n room sc i b in (ap (λ w. w.names) e, ap (λ w. w.rebound) e)
@@ -151,11 +150,11 @@ module _ (tok : ℕ → Token) (n : ℕ) where
     abbrev verdict : Scope → STerm → bytes.Verdict
     verdict s t = term_verdict prog fs s t
 
-    result_at_lem : {room i : ℕ} {c : SExp} {k : ℕ} (sc : Names) (s : Scope) → Reach tok n sc s → ExpAt tok n of_program room i c k → term_of room sc i ≡ walked k Fine Fine (coded (reach_e s c))
+    result_at_lem : {room i : ℕ} {c : SExp} {k : ℕ} (sc : Names) (s : Scope) → Reach tok n sc s → ExpAt tok n of_program room i c k → term_of room sc i ≡ walked k fine fine (coded (reach_e s c))
     result_at_lem sc s r x = let e = exp_binds sc x in term_exp sc x ∙ same_walked _ _ _ _ _ (exp_past tok n sc x) e.0 e.1 (exp_uses tok n sc s r x)
 
     call_at_lem : {room i k : ℕ} {cs : List SExp} (sc : Names) (s : Scope) → Reach tok n sc s → WordAt tok n "(" i → WordAt tok n "call" (i + 1) → ExpsAt tok n of_program "]" room (i + 4) cs k → WordAt tok n ")" (k + 1) →
-        term_of (suc room) sc i ≡ walked (k + 2) Fine Fine (coded (verdict s (call_s (stand (i + 2)) cs)))
+        term_of (suc room) sc i ≡ walked (k + 2) fine fine (coded (verdict s (call_s (stand (i + 2)) cs)))
     call_at_lem {room} {i} {k} {cs} sc s r o w x c =
         let a = w.below in let d = exps_bounds tok n x in let d0 = d.0 in let d1 = d.1 in let c0 = c.below in
         let z : 0 + place_of (tok (i + 2)).num fs ≡ place_of (tok (i + 2)).num fs = omega arith in
@@ -168,10 +167,10 @@ module _ (tok : ℕ → Token) (n : ℕ) where
           ahead_in n 4 i (omega arith),
           place_at_lem (tok (i + 2)).num hs,
           z,
-          args_at_lem tok n n sc s (ahead n 2 (get_or heads (place_of (tok (i + 2)).num fs) 0)) true Fine r x f,
+          args_at_lem tok n n sc s (ahead n 2 (get_or heads (place_of (tok (i + 2)).num fs) 0)) true fine r x f,
           ahead_in n 2 k (omega arith),
         )
-        (ap (walked (k + 2) Fine Fine) (call_uses (place_of (tok (i + 2)).num fs) (tok (i + 2)).at s cs))
+        (ap (walked (k + 2) fine fine) (call_uses (place_of (tok (i + 2)).num fs) (tok (i + 2)).at s cs))
 
     -- what a t that ends before k comes to
     abbrev found : ℕ → Scope → STerm → Walked

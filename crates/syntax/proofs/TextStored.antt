@@ -15,8 +15,8 @@ use Rattle.language.specs.Tokens.{cut, tag, Text, symbols_of, names_of, Token, t
 use Rattle.language.specs.Reader.{ok}
 use Rattle.language.specs.Source.{SProg, SJob}
 use Rattle.language.specs.Grammar.{program, job_text}
-use Rattle.words.specs.declared.got.Got.{Got}
-use Rattle.words.specs.declared.got.Got.TheVariants.{Past}
+use Rattle.refusals.specs.declared.refusal.Refusal.{Refusal}
+use Rattle.std.specs.Prelude.{Result, Ok}
 use Rattle.grammar.specs.Twins.Positions.{nothing, program_p, job_p}
 use Rattle.words.specs.Twins.Marks.{fit_number, cell_of, mark_of, decode}
 use Rattle.grammar.specs.Twins.Stored.{seen, program_at, job_at}
@@ -121,7 +121,7 @@ module _ (first text : List ℕ) (P : ℕ → Type 0) (t : Text) (zs : List Word
   below : left.last < 4097
   below = omega (arith, left.most)
 
-  abbrev Alikes : (ℕ → Got) → (ℕ → Got) → Type 0
+  abbrev Alikes : (ℕ → Result ℕ Refusal) → (ℕ → Result ℕ Refusal) → Type 0
   Alikes p q = Same (token_at ts) (seen f.marks f.ats) left.last alike stops p q
 
   programs : Alikes (program_p (token_at ts) (length ts)) (program_p (seen f.marks f.ats) 4097)
@@ -140,7 +140,7 @@ module _ (first text : List ℕ) (P : ℕ → Type 0) (t : Text) (zs : List Word
   job_read = sym (jobs.same 0 (omega arith)) ∙ job_tracks ts 0 (omega arith)
 
   -- a reader that comes to the end has come to the last token
-  ended : (p q : ℕ → Got) → Alikes p q → Ends (token_at ts) (length ts) p → (k : ℕ) → p 0 ≡ Past k → (token_at ts left.last).key ≡ 0
+  ended : (p q : ℕ → Result ℕ Refusal) → Alikes p q → Ends (token_at ts) (length ts) p → (k : ℕ) → p 0 ≡ Ok k → (token_at ts left.last).key ≡ 0
   ended p q a h k e = go (ℕ_discrete k left.last)
     where
       key : (token_at ts k).key ≡ 0

@@ -1,5 +1,5 @@
 // Where the parts of a job stand, by its brackets: `(job (in d ..) (out d) (neq [d d] ..) ..`. For who reads the data again.
-ghost use Rattle.std.specs.Prelude.{◌≡◌, ◌-◌};
+ghost use Rattle.std.specs.Prelude.{◌≡◌};
 ghost use Rattle.checker.specs.Twins.StoredAt.{key_at};
 ghost use Rattle.syntax.specs.Twins.PartEnds.{part_ends};
 
@@ -17,16 +17,6 @@ pub struct JobEnds {
     pub neqs: usize,
 }
 
-// The index before i.
-fn before(i: usize) -> usize
-    ensures { result ≡ i - 1 }
-{
-    if i == 0 {
-        return 0;
-    }
-    i - 1
-}
-
 pub fn job_ends(marks: &[u16], n: usize) -> JobEnds
     ensures { result ≡ part_ends (key_at marks.now n) n }
 {
@@ -34,10 +24,10 @@ pub fn job_ends(marks: &[u16], n: usize) -> JobEnds
     let o = past(marks, n, i);
     let q = past(marks, n, o);
     JobEnds {
-        ins: before(i),
+        ins: i.saturating_sub(1),
         from: ahead(n, 2, i),
-        out: before(o),
+        out: o.saturating_sub(1),
         sides: ahead(n, 2, o),
-        neqs: before(q),
+        neqs: q.saturating_sub(1),
     }
 }

@@ -1,34 +1,21 @@
 // What the grammar and the check find in a text's stored tokens: "3, 4, 5 at the earliest token", then 6 to 9 and 13 of a program, 10 to 12 of a
 // job (01, "From the input"; 02, request 1).
 ghost use Rattle.std.specs.Prelude.{◌≡◌};
-ghost use Rattle.syntax.specs.Twins.ReadAnswer.{verdict_got, program_judged, job_judged};
+ghost use Rattle.syntax.specs.Twins.ReadAnswer.{program_judged, job_judged};
 
 use grammar::definitions::program;
 use grammar::jobs::job;
 use job_checker::check_job::check_job;
 use programs::check_program::check_program;
-use verdicts::found::Verdict;
-use words::got::Got;
-
-// The check's verdict on what was read up to `k`.
-fn after_check(v: Verdict, k: usize) -> Got
-    ensures { result ≡ verdict_got v k }
-{
-    match v {
-        Verdict::Fine => Got::Past(k),
-        Verdict::Fault { number, offset } => Got::Refused { number, offset },
-    }
-}
+use refusals::refusal::Refusal;
 
 // A program of n tokens: the index past it, or the refusal.
-pub fn judge_program(marks: &[u16], nums: &[u16], ats: &[u16], n: usize) -> Got
+pub fn judge_program(marks: &[u16], nums: &[u16], ats: &[u16], n: usize) -> Result<usize, Refusal>
     ensures { result ≡ program_judged marks.now nums.now ats.now n }
 {
-    let got = program(marks, ats);
-    match got {
-        Got::Refused { number, offset } => Got::Refused { number, offset },
-        Got::Past(k) => after_check(check_program(marks, nums, ats, n), k),
-    }
+    let end = program(marks, ats)?;
+    check_program(marks, nums, ats, n)?;
+    Ok(end)
 }
 
 // A job of n tokens, for a program whose tokens have the marks `main`, m of them; `runs` is whether the tool is the runner.
@@ -41,12 +28,10 @@ pub fn judge_job(
     nums: &[u16],
     ats: &[u16],
     n: usize,
-) -> Got
+) -> Result<usize, Refusal>
     ensures { result ≡ job_judged runs main.now m text.now marks.now nums.now ats.now n }
 {
-    let got = job(marks, ats);
-    match got {
-        Got::Refused { number, offset } => Got::Refused { number, offset },
-        Got::Past(k) => after_check(check_job(marks, nums, ats, n, text, main, m, runs), k),
-    }
+    let end = job(marks, ats)?;
+    check_job(marks, nums, ats, n, text, main, m, runs)?;
+    Ok(end)
 }

@@ -2,15 +2,16 @@
 use Prim.Native.Nat.{ℕ, ◌≤◌}
 use mathlib.Core.Path.{◌≡◌, refl, ap, ◌∙◌}
 use mathlib.Core.Bool.{Bool, cond}
+use Rattle.std.specs.Prelude.{Ok, Err}
 use mathlib.Core.List.{List, ◌++◌}
 use native.Mathlib.Omega.{arith}
 use lib.ListN.{length, get_or}
 use borrow.Author.Tests.{ne_eqb}
 use Rattle.telling.specs.Numbers.{padded, said_after}
-use Rattle.answers.specs.ListNumbers.{number_of, said_of, answer_from, Numbered}
+use Rattle.refusals.specs.declared.refusal.Refused.TheVariants.{Program, Job, Short}
+use Rattle.answers.specs.ListNumbers.{Answer, word_number, number_of, said_of, answer_from, Numbered}
+use Rattle.answers.specs.declared.list.Word.{Word}
 use Rattle.answers.specs.declared.list.Word.TheVariants.{Whole, Cut, Stop21, Stop22, Stop23}
-use Rattle.answers.specs.declared.list.Answer.{Answer}
-use Rattle.answers.specs.declared.list.Answer.TheVariants.{Listed, Program, Job, Short}
 use Rattle.telling.proofs.NumberLaws.{padded_at}
 
 -- only the first five numbers are looked at
@@ -21,17 +22,26 @@ padded_back : (n : ℕ) (v s : List ℕ) → 5 ≤ length s → answer_from n (p
 padded_back n v s h =
     from_alike n (padded v (length s)) v (padded_at v (length s) 0 (omega (arith, h))) (padded_at v (length s) 1 (omega (arith, h))) (padded_at v (length s) 2 (omega (arith, h))) (padded_at v (length s) 3 (omega (arith, h))) (padded_at v (length s) 4 (omega (arith, h)))
 
+abbrev told : ℕ → List ℕ → List ℕ → Answer → Answer
+told n rest s a = answer_from n (said_after n (said_of a ++ rest) s)
+
+abbrev of_word : Word → ℕ → ℕ → Answer
+of_word w l c = Ok (record { word = w; lines = l; count = c })
+
+listed_back : (w : Word) (l c : ℕ) (rest s : List ℕ) → 5 ≤ length s → told (word_number w) rest s (of_word w l c) ≡ of_word w l c
+listed_back Whole l c rest s h = padded_back 0 (said_of (of_word Whole l c) ++ rest) s h
+listed_back Cut l c rest s h = padded_back 0 (said_of (of_word Cut l c) ++ rest) s h
+listed_back Stop21 l c rest s h = padded_back 21 (said_of (of_word Stop21 l c) ++ rest) s h
+listed_back Stop22 l c rest s h = padded_back 22 (said_of (of_word Stop22 l c) ++ rest) s h
+listed_back Stop23 l c rest s h = padded_back 23 (said_of (of_word Stop23 l c) ++ rest) s h
+
 -- whatever stands behind the answer's own numbers
 pub list_back : (a : Answer) (rest s : List ℕ) → Numbered a → 5 ≤ length s → answer_from (number_of a) (said_after (number_of a) (said_of a ++ rest) s) ≡ a
-list_back (Listed Whole l c) rest s m h = padded_back 0 (said_of (Listed Whole l c) ++ rest) s h
-list_back (Listed Cut l c) rest s m h = padded_back 0 (said_of (Listed Cut l c) ++ rest) s h
-list_back (Listed Stop21 l c) rest s m h = padded_back 21 (said_of (Listed Stop21 l c) ++ rest) s h
-list_back (Listed Stop22 l c) rest s m h = padded_back 22 (said_of (Listed Stop22 l c) ++ rest) s h
-list_back (Listed Stop23 l c) rest s m h = padded_back 23 (said_of (Listed Stop23 l c) ++ rest) s h
-list_back (Program n o) rest s m h =
-    let e = ne_eqb n 20 (λ i. omega (arith, i, m.1)) in
-    ap (λ (b : Bool). answer_from n (cond b s (padded (said_of (Program n o) ++ rest) (length s)))) e ∙ padded_back n (said_of (Program n o) ++ rest) s h ∙ rw (e) refl
-list_back (Job n o) rest s m h =
-    let e = ne_eqb n 20 (λ i. omega (arith, i, m.1)) in
-    ap (λ (b : Bool). answer_from n (cond b s (padded (said_of (Job n o) ++ rest) (length s)))) e ∙ padded_back n (said_of (Job n o) ++ rest) s h ∙ rw (e) refl
-list_back Short rest s m h = refl
+list_back (Ok a) rest s m h = listed_back a.word a.lines a.count rest s h
+list_back (Err (Program r)) rest s m h =
+    let e = ne_eqb r.number 20 (λ i. omega (arith, i, m.1)) in
+    ap (λ (b : Bool). answer_from r.number (cond b s (padded (said_of (Err (Program r)) ++ rest) (length s)))) e ∙ padded_back r.number (said_of (Err (Program r)) ++ rest) s h ∙ rw (e) refl
+list_back (Err (Job r)) rest s m h =
+    let e = ne_eqb r.number 20 (λ i. omega (arith, i, m.1)) in
+    ap (λ (b : Bool). answer_from r.number (cond b s (padded (said_of (Err (Job r)) ++ rest) (length s)))) e ∙ padded_back r.number (said_of (Err (Job r)) ++ rest) s h ∙ rw (e) refl
+list_back (Err Short) rest s m h = refl

@@ -2,14 +2,15 @@
 use Prim.Native.Nat.{ℕ, ◌≤◌}
 use mathlib.Core.Path.{◌≡◌, refl, ap, ◌∙◌}
 use mathlib.Core.Bool.{Bool, cond}
+use Rattle.std.specs.Prelude.{Ok, Err}
 use mathlib.Core.List.{List}
 use native.Mathlib.Omega.{arith}
 use lib.ListN.{length, get_or}
 use borrow.Author.Tests.{ne_eqb}
 use Rattle.telling.specs.Numbers.{padded, said_after}
-use Rattle.run_answers.specs.RunNumbers.{number_of, said_of, answer_from, Numbered}
-use Rattle.run_answers.specs.declared.run.Answer.{Answer}
-use Rattle.run_answers.specs.declared.run.Answer.TheVariants.{Value, Over, NotWithin, Program, Job, Short}
+use Rattle.refusals.specs.declared.refusal.Refused.TheVariants.{Program, Job, Short}
+use Rattle.run_answers.specs.RunNumbers.{Answer, number_of, said_of, answer_from, Numbered}
+use Rattle.run_answers.specs.declared.run.Ran.TheVariants.{Value, Over, NotWithin}
 use Rattle.telling.proofs.NumberLaws.{padded_at}
 
 -- only the first four numbers are looked at
@@ -21,15 +22,15 @@ padded_back n v s h =
     from_alike n (padded v (length s)) v (padded_at v (length s) 0 (omega (arith, h))) (padded_at v (length s) 1 (omega (arith, h))) (padded_at v (length s) 2 (omega (arith, h))) (padded_at v (length s) 3 (omega (arith, h)))
 
 pub run_back : (a : Answer) (s : List ℕ) → Numbered a → 4 ≤ length s → answer_from (number_of a) (said_after (number_of a) (said_of a) s) ≡ a
-run_back (Value k n) s m h =
+run_back (Ok (Value k n)) s m h =
     let e = ne_eqb n 0 (λ i. omega (arith, i, m)) in
-    padded_back 0 (said_of (Value k n)) s h ∙ rw (e) refl
-run_back Over s m h = padded_back 21 (said_of Over) s h
-run_back NotWithin s m h = padded_back 0 (said_of NotWithin) s h
-run_back (Program n o) s m h =
-    let e = ne_eqb n 20 (λ i. omega (arith, i, m.1)) in
-    ap (λ (b : Bool). answer_from n (cond b s (padded (said_of (Program n o)) (length s)))) e ∙ padded_back n (said_of (Program n o)) s h ∙ rw (e) refl
-run_back (Job n o) s m h =
-    let e = ne_eqb n 20 (λ i. omega (arith, i, m.1)) in
-    ap (λ (b : Bool). answer_from n (cond b s (padded (said_of (Job n o)) (length s)))) e ∙ padded_back n (said_of (Job n o)) s h ∙ rw (e) refl
-run_back Short s m h = refl
+    padded_back 0 (said_of (Ok (Value k n))) s h ∙ rw (e) refl
+run_back (Ok Over) s m h = padded_back 21 (said_of (Ok Over)) s h
+run_back (Ok NotWithin) s m h = padded_back 0 (said_of (Ok NotWithin)) s h
+run_back (Err (Program r)) s m h =
+    let e = ne_eqb r.number 20 (λ i. omega (arith, i, m.1)) in
+    ap (λ (b : Bool). answer_from r.number (cond b s (padded (said_of (Err (Program r))) (length s)))) e ∙ padded_back r.number (said_of (Err (Program r))) s h ∙ rw (e) refl
+run_back (Err (Job r)) s m h =
+    let e = ne_eqb r.number 20 (λ i. omega (arith, i, m.1)) in
+    ap (λ (b : Bool). answer_from r.number (cond b s (padded (said_of (Err (Job r))) (length s)))) e ∙ padded_back r.number (said_of (Err (Job r))) s h ∙ rw (e) refl
+run_back (Err Short) s m h = refl

@@ -3,5 +3,6 @@
 
 pub mod list;
 mod numbers;
+mod refused;
 pub mod run;
 pub mod sample;

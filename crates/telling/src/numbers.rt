@@ -2,16 +2,13 @@
 ghost use Rattle.std.specs.Prelude.{◌≡◌, get_or};
 ghost use Rattle.telling.specs.Numbers.{said_after};
 
-use answers::letters::SHORT;
+use refusals::letters::SHORT;
 
 // The number at i; 0 past the end.
 pub(crate) fn number_at(said: &[usize], i: usize) -> usize
     ensures { result ≡ get_or said.now i 0 }
 {
-    if i < said.len() {
-        return said[i];
-    }
-    0
+    said.get(i).copied().unwrap_or(0)
 }
 
 // As many of the numbers as there is room for, zeros behind them; 20 touches nothing.

@@ -3,7 +3,7 @@ ghost use Rattle.std.specs.Prelude.{◌≡◌, [], ◌∷◌};
 ghost use Rattle.telling.specs.Numbers.{sample_number, said_after};
 
 use crate::numbers::write_numbers;
-use answers::letters::SHORT;
+use refusals::letters::SHORT;
 
 fn sample_number(short: bool) -> usize
     ensures { result ≡ sample_number short }

@@ -1,10 +1,10 @@
--- What the readers answer and leave is what the texts are read as: `program-reads`, `job-reads`.
+-- What the readers answer and leave is what the texts are read as: `program_reads`, `job_reads`.
 use Prim.Native.Nat.{ℕ, ◌≤◌}
 use mathlib.Core.Path.{◌≡◌, refl, ap, ◌∙◌, sym, subst}
 use mathlib.Core.Bool.{Bool, true, false, cond, false≢true}
 use mathlib.Core.List.{List, []}
 use lib.Dec.{leb, ltb}
-use lib.ListN.{length, replicate}
+use lib.ListN.{length}
 use borrow.Author.Tests.{leb-true, ltb-false}
 use Rattle.language.specs.Reader.{Res, ok, refused}
 use Rattle.language.specs.Source.{SProg, SJob}
@@ -15,13 +15,14 @@ use Rattle.words.specs.Twins.Cutting.{bytes_at}
 use Rattle.lexer.specs.Twins.Lexed.{State, starting}
 use Rattle.syntax.specs.Twins.ReadAnswer.{res_got, job_judged}
 use Rattle.lent.specs.Storage.{roomy}
-use Rattle.texts.specs.Twins.ReadCells.{ReadAnswer, ReadOut, cleared, after_cut, if_roomy, program_cut, program_cells, job_cut, job_cells, read_as, program_reading, tool_of, job_reading, ProgramLeft}
-use Rattle.words.specs.declared.got.Got.{Got}
+use Rattle.texts.specs.Twins.ReadCells.{ReadAnswer, ReadOut, after_cut, if_roomy, program_cut, program_cells, job_cut, job_cells, read_as, program_reading, tool_of, job_reading, ProgramLeft}
+use Rattle.std.specs.Prelude.{Result, Ok, Err}
+use Rattle.refusals.specs.declared.refusal.Refusal.{Refusal}
 use Rattle.lent.specs.declared.read.Read.{Read}
-use Rattle.words.specs.declared.got.Got.TheVariants.{Past, Refused}
+use Rattle.lent.specs.declared.read.Unread.{Unread}
 use Rattle.lexer.proofs.CutLengths.{SameLengths, cut_lengths}
 use Rattle.syntax.proofs.JobLaws.{is_runner}
-use Rattle.texts.proofs.ReadLaws.{program_short, program_bytes_lem, job_short, job_bytes_lem}
+use Rattle.texts.proofs.ReadLaws.{cleared_lengths, program_short, program_bytes_lem, job_short, job_bytes_lem}
 use Rattle.syntax.proofs.ProgramRead as program
 use Rattle.syntax.proofs.JobRead as job
 use Rattle.syntax.proofs.StoredCheck as storedCheck
@@ -53,23 +54,11 @@ rooms marks nums ats symbols names =
       names_room = leb-true 8194 (length names) e;
     }
 
--- the storages of a refused text are nought, whatever was cut before
-cleared_lengths : (number offset : ℕ) (s u : State) → SameLengths s u →
-    cleared number offset u.marks u.nums u.ats u.symbols u.names ≡ cleared number offset s.marks s.nums s.ats s.symbols s.names
-cleared_lengths number offset s u l = λ i. record {
-  answer = (cleared number offset s.marks s.nums s.ats s.symbols s.names).answer;
-  marks = replicate (l.marks i) 0;
-  nums = replicate (l.nums i) 0;
-  ats = replicate (l.ats i) 0;
-  symbols = replicate (l.symbols i) 0;
-  names = replicate (l.names i) 0;
-}
-
 -- from what the grammar and the check find: `s` before the text was cut, `u` behind
 judged_as : {A : Type 0} (x : Res A) (k : ℕ) (s u : State) → SameLengths s u →
     after_cut u (res_got x k) ≡ read_as x s.marks s.nums s.ats s.symbols s.names u
 judged_as (ok a) k s u l = refl
-judged_as (refused r) k s u l = cleared_lengths r.number r.at s u l
+judged_as (refused r) k s u l = cleared_lengths (record { number = r.number; offset = r.at }) s u l
 
 module _ (text marks nums ats symbols names : List ℕ) where
   abbrev lent : State
@@ -85,13 +74,13 @@ module _ (text marks nums ats symbols names : List ℕ) where
     abbrev room : Rooms marks nums ats symbols names
     room = rooms marks nums ats symbols names long
 
-    by_bytes : (g : Got) → bytes_at 32768 text ≡ g → program_cells text marks nums ats symbols names ≡ as_read
-    by_bytes (Refused n o) e =
-        program_bytes_lem marks nums ats symbols names text long (Refused n o) e
-        ∙ sym (ap (λ x. read_as x marks nums ats symbols names cut) (program.program_bytes_lem text marks nums ats symbols names room.marks_room room.nums_room room.ats_room room.symbols_room room.names_room n o e))
-    by_bytes (Past i) e =
+    by_bytes : (g : Result ℕ Refusal) → bytes_at 32768 text ≡ g → program_cells text marks nums ats symbols names ≡ as_read
+    by_bytes (Err r) e =
+        program_bytes_lem marks nums ats symbols names text long (Err r) e
+        ∙ sym (ap (λ x. read_as x marks nums ats symbols names cut) (program.program_bytes_lem text marks nums ats symbols names room.marks_room room.nums_room room.ats_room room.symbols_room room.names_room r e))
+    by_bytes (Ok i) e =
         let j = program.program_judged_lem text marks nums ats symbols names room.marks_room room.nums_room room.ats_room room.symbols_room room.names_room i e in
-        program_bytes_lem marks nums ats symbols names text long (Past i) e ∙ ap (after_cut cut) j.1
+        program_bytes_lem marks nums ats symbols names text long (Ok i) e ∙ ap (after_cut cut) j.1
         ∙ judged_as (read_program text) j.0 lent cut (cut_lengths false text text 4097 lent)
 
     pub program_held : (p : SProg) → read_program text ≡ ok p → program.ProgramStored text cut p
@@ -140,15 +129,15 @@ module _ (runs : Bool) (first main : List ℕ) (m : ℕ) (p : SProg) (text marks
     abbrev job_room : Rooms marks nums ats symbols names
     job_room = rooms marks nums ats symbols names long
 
-    job_by_bytes : (g : Got) → bytes_at 8192 text ≡ g → job_cells runs first main m text marks nums ats symbols before names ≡ job_as
-    job_by_bytes (Refused n o) e =
-        job_bytes_lem marks nums ats symbols names runs first main m text before long (Refused n o) e
+    job_by_bytes : (g : Result ℕ Refusal) → bytes_at 8192 text ≡ g → job_cells runs first main m text marks nums ats symbols before names ≡ job_as
+    job_by_bytes (Err r) e =
+        job_bytes_lem marks nums ats symbols names runs first main m text before long (Err r) e
         ∙ sym (ap (λ x. read_as x marks nums ats symbols names cut_job)
-        (job.job_bytes_lem first text marks nums ats symbols names zs before counts held.few table_held job_room.marks_room job_room.nums_room job_room.ats_room job_room.symbols_room job_room.names_room (tool_of runs) p n o e))
-    job_by_bytes (Past i) e =
+        (job.job_bytes_lem first text marks nums ats symbols names zs before counts held.few table_held job_room.marks_room job_room.nums_room job_room.ats_room job_room.symbols_room job_room.names_room (tool_of runs) p r e))
+    job_by_bytes (Ok i) e =
         let j = job.job_judged_lem first text marks nums ats symbols names zs before counts held.few table_held job_room.marks_room job_room.nums_room job_room.ats_room job_room.symbols_room job_room.names_room
         main u.nums u.ats m p main_held (tool_of runs) i e in
-        job_bytes_lem marks nums ats symbols names runs first main m text before long (Past i) e
+        job_bytes_lem marks nums ats symbols names runs first main m text before long (Ok i) e
         ∙ ap (λ b. after_cut cut_job (job_judged b main m text cut_job.marks cut_job.nums cut_job.ats cut_job.i)) (sym (is_runner_tool runs))
         ∙ ap (after_cut cut_job) j.1
         ∙ judged_as (read_job (tool_of runs) p zs text) j.0 (starting marks nums ats symbols names before) cut_job (cut_lengths true first text 4097 (starting marks nums ats symbols names before))
@@ -165,18 +154,18 @@ module _ (runs : Bool) (first main : List ℕ) (m : ℕ) (p : SProg) (text marks
       go false e = job_short marks nums ats symbols names runs first main m text before e ∙ sym (ap (λ b. if_roomy b marks nums ats symbols names job_as) e)
 
 -- an answer and what is left, equation by equation
-abbrev Equations : Read → List ℕ → List ℕ → List ℕ → List ℕ → List ℕ → ReadAnswer → Type 0
+abbrev Equations : Result Read Unread → List ℕ → List ℕ → List ℕ → List ℕ → List ℕ → ReadAnswer → Type 0
 Equations r m n a y x w = (r ≡ w.answer) × (m ≡ w.marks) × (n ≡ w.nums) × (a ≡ w.ats) × (y ≡ w.symbols) × (x ≡ w.names)
 
-equations : {r : Read} {m n a y x : List ℕ} {w : ReadAnswer} → ReadOut r m n a y x w → Equations r m n a y x w
+equations : {r : Result Read Unread} {m n a y x : List ℕ} {w : ReadAnswer} → ReadOut r m n a y x w → Equations r m n a y x w
 equations o = (o.answer, o.marks_out, o.nums_out, o.ats_out, o.symbols_out, o.names_out)
 
-pub program_out : (text marks nums ats symbols names : List ℕ) {r : Read} {m n a y x : List ℕ} →
+pub program_out : (text marks nums ats symbols names : List ℕ) {r : Result Read Unread} {m n a y x : List ℕ} →
     ReadOut r m n a y x (program_cells text marks nums ats symbols names) → Equations r m n a y x (program_reading text marks nums ats symbols names)
 program_out text marks nums ats symbols names {r} {m} {n} {a} {y} {x} o =
     equations (subst (ReadOut r m n a y x) (program_reads text marks nums ats symbols names) o)
 
-pub job_out : (runs : Bool) (first main : List ℕ) (count : ℕ) (text marks nums ats symbols : List ℕ) (before : ℕ) (names : List ℕ) {r : Read} {m n a y x : List ℕ} →
+pub job_out : (runs : Bool) (first main : List ℕ) (count : ℕ) (text marks nums ats symbols : List ℕ) (before : ℕ) (names : List ℕ) {r : Result Read Unread} {m n a y x : List ℕ} →
     ReadOut r m n a y x (job_cells runs first main count text marks nums ats symbols before names) →
     Equations r m n a y x (job_cells runs first main count text marks nums ats symbols before names) ×
     ((p : SProg) → ProgramLeft first main count symbols before p → ReadOut r m n a y x (job_reading runs first p text marks nums ats symbols before names))

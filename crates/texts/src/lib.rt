@@ -2,5 +2,6 @@
 // and what the functions over storage come to in specs/.
 #![tactic(auto)]
 
+mod found;
 pub mod read_job;
 pub mod read_program;

@@ -27,34 +27,24 @@ pub fn ask(
 ) -> Asked
     ensures { ask_left result heap.new ≡ asked_at code.now c heap.old frame.now }
 {
-    let l = link_at(code, c.place);
-    let mark = l.mark;
-    if mark == CALL {
-        return Asked::Call;
+    match link_at(code, c.place).mark {
+        CALL => Asked::Call,
+        SAME => {
+            let s = sides_at(code, heap, frame, c);
+            Asked::Same {
+                left: s.left,
+                right: s.right,
+            }
+        }
+        TEST => Asked::Test(look(code, heap, frame, c)),
+        _ => Asked::End,
     }
-    if mark == SAME {
-        let s = sides_at(code, heap, frame, c);
-        return Asked::Same {
-            left: s.left,
-            right: s.right,
-        };
-    }
-    if mark == TEST {
-        let t = look(code, heap, frame, c);
-        return Asked::Test(t);
-    }
-    Asked::End
 }
 
 pub fn is_call(a: Asked) -> bool
     ensures { result ≡ is_call a }
 {
-    match a {
-        Asked::End => false,
-        Asked::Call => true,
-        Asked::Same { left: _, right: _ } => false,
-        Asked::Test(_) => false,
-    }
+    matches!(a, Asked::Call)
 }
 
 // Which of a condition's two branches there are: "A branch that contradicts is no transition."
@@ -62,11 +52,7 @@ pub fn branches(q: &[u16; 4096], neqs: usize, a: Asked) -> Branches
     ensures { result ≡ branches_asked neqs a q.now }
 {
     match a {
-        Asked::End => Branches {
-            yes: false,
-            no: false,
-        },
-        Asked::Call => Branches {
+        Asked::End | Asked::Call => Branches {
             yes: false,
             no: false,
         },

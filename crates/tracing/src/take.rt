@@ -6,8 +6,9 @@ ghost use Rattle.tracing.specs.Twins.Asking.{true_taken, false_taken, taken_as};
 use crate::ask::Asked;
 use atoms::take::{take_equal, take_unequal};
 use calls::call::call;
-use heap::configuration::{Configuration, Moved};
+use heap::configuration::Configuration;
 use pairs::branch::{take_false, take_true};
+use restrictions::failure::Failure;
 use values::names::names_from;
 
 fn take_yes(
@@ -17,11 +18,11 @@ fn take_yes(
     q: &mut [u16; 4096],
     c: Configuration,
     a: Asked,
-) -> Moved
+) -> Result<Configuration, Failure>
     ensures { leaves result heap.new frame.new q.new ≡ true_taken code.now c a heap.old frame.old q.old }
 {
     match a {
-        Asked::End => Moved::Over,
+        Asked::End => Err(Failure::Over),
         Asked::Call => call(code, heap, frame, names_from(c), c),
         Asked::Same { left, right } => take_equal(code, heap, frame, q, c, left, right),
         Asked::Test(t) => take_true(code, heap, frame, c, t),
@@ -35,11 +36,11 @@ fn take_no(
     q: &mut [u16; 4096],
     c: Configuration,
     a: Asked,
-) -> Moved
+) -> Result<Configuration, Failure>
     ensures { leaves result heap.new frame.new q.new ≡ false_taken code.now c a heap.old frame.old q.old }
 {
     match a {
-        Asked::End => Moved::Over,
+        Asked::End => Err(Failure::Over),
         Asked::Call => call(code, heap, frame, names_from(c), c),
         Asked::Same { left, right } => take_unequal(code, heap, frame, q, c, left, right),
         Asked::Test(t) => take_false(code, heap, frame, c, t),
@@ -55,7 +56,7 @@ pub fn take(
     c: Configuration,
     a: Asked,
     taken: bool,
-) -> Moved
+) -> Result<Configuration, Failure>
     ensures { leaves result heap.new frame.new q.new ≡ taken_as code.now c a taken heap.old frame.old q.old }
 {
     if taken {

@@ -8,16 +8,12 @@ use cells::cell;
 fn choice_cell(taken: bool, pending: bool) -> u16
     ensures { result ≡ choice_cell taken pending }
 {
-    if taken {
-        if pending {
-            return 3;
-        }
-        return 1;
+    match (taken, pending) {
+        (true, true) => 3,
+        (true, false) => 1,
+        (false, true) => 2,
+        (false, false) => 0,
     }
-    if pending {
-        return 2;
-    }
-    0
 }
 
 // A choice behind the first `depth` ones, and how many there are now.
@@ -25,7 +21,7 @@ pub fn push_choice(path: &mut [u16; 1000], depth: usize, taken: bool, pending: b
     ensures { path_left result path.new ≡ pushed depth taken pending path.old }
 {
     cell::put(path, depth, choice_cell(taken, pending));
-    cell::least(depth, 65535) + 1
+    depth.min(65535) + 1
 }
 
 // Whether the true branch is taken at decision i.
@@ -46,13 +42,10 @@ pub fn pending_at(path: &[u16; 1000], i: usize) -> bool
 fn latest_pending(path: &[u16; 1000], depth: usize) -> usize
     ensures { result ≡ latest_pending path.now depth }
 {
-    let mut d = depth;
-    while 0 < d {
-        let i = d - 1;
+    for i in (0..depth).rev() {
         if pending_at(path, i) {
-            return d;
+            return i + 1;
         }
-        d = i;
     }
     0
 }

@@ -9,7 +9,7 @@ use positions::position::Bounds;
 use saving::head::Node;
 
 // Call: a call. Choice: a condition. Leaf: none, as at an end and N deep.
-#[derive(Drop)]
+#[derive(Clone, Copy)]
 pub enum Way {
     Call,
     Choice,
@@ -19,10 +19,7 @@ pub enum Way {
 pub fn is_both(b: Branches) -> bool
     ensures { result ≡ is_both b }
 {
-    if b.yes {
-        return b.no;
-    }
-    false
+    b.no && b.yes
 }
 
 // "true branch first": whether it is the true one, where b are those there are.
@@ -36,13 +33,7 @@ pub fn first_branch(b: Branches) -> bool
 pub fn is_result(mark: u16) -> bool
     ensures { result ≡ is_result mark }
 {
-    if mark == CALL {
-        return false;
-    }
-    if mark == SAME {
-        return false;
-    }
-    if mark == TEST { false } else { true }
+    mark != CALL && mark != SAME && mark != TEST
 }
 
 // "goes N transitions deep"
@@ -77,14 +68,11 @@ pub fn lines_kept(b: Bounds) -> usize
 pub fn way_on(mark: u16, b: Bounds, n: Node) -> Way
     ensures { result ≡ way_on mark b n }
 {
-    if is_result(mark) {
-        return Way::Leaf;
+    if is_result(mark) || is_deep(b, n) {
+        Way::Leaf
+    } else if mark == CALL {
+        Way::Call
+    } else {
+        Way::Choice
     }
-    if is_deep(b, n) {
-        return Way::Leaf;
-    }
-    if mark == CALL {
-        return Way::Call;
-    }
-    Way::Choice
 }

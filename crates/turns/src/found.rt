@@ -2,7 +2,6 @@
 ghost use Rattle.std.specs.Prelude.{◌≡◌};
 ghost use Rattle.turns.specs.Twins.Finding.{walked, nothing_found, counted, cut_off, with_lines};
 
-use cells::cell;
 use lines::line::Lines;
 
 // The transitions made, the lines, whether a path was cut.
@@ -14,7 +13,7 @@ pub struct Found {
 }
 
 // Done: nothing is untaken. Over: 21. Full: 22. Spent: 23.
-#[derive(Drop)]
+#[derive(Clone, Copy)]
 pub enum Ending {
     Done,
     Over,
@@ -23,34 +22,30 @@ pub enum Ending {
 }
 
 // What a walk comes to.
-#[derive(Drop)]
+#[derive(Clone, Copy)]
 pub struct Walked {
-    pub ending: Ending,
     pub found: Found,
+    pub ending: Ending,
 }
 
 pub fn stopped(ending: Ending, found: Found) -> Walked
     ensures { result ≡ walked ending found }
 {
-    Walked {
-        ending: ending,
-        found: found,
-    }
+    Walked { found, ending }
 }
 
 // What a walk has found before its first transition.
 pub fn nothing() -> Found
     ensures { result ≡ nothing_found }
 {
-    let lines = Lines {
-        count: 0,
-        nodes: 0,
-        top: 0,
-    };
     Found {
         count: 0,
+        lines: Lines {
+            count: 0,
+            nodes: 0,
+            top: 0,
+        },
         cut: false,
-        lines: lines,
     }
 }
 
@@ -58,11 +53,9 @@ pub fn nothing() -> Found
 pub fn count(f: Found) -> Found
     ensures { result ≡ counted f }
 {
-    let lines = f.lines;
     Found {
-        count: cell::least(f.count, 1000000) + 1,
-        cut: f.cut,
-        lines: lines,
+        count: f.count.min(1000000) + 1,
+        ..f
     }
 }
 
@@ -70,20 +63,11 @@ pub fn count(f: Found) -> Found
 pub fn cut_off(f: Found) -> Found
     ensures { result ≡ cut_off f }
 {
-    let lines = f.lines;
-    Found {
-        count: f.count,
-        cut: true,
-        lines: lines,
-    }
+    Found { cut: true, ..f }
 }
 
 pub fn with_lines(f: Found, lines: Lines) -> Found
     ensures { result ≡ with_lines f lines }
 {
-    Found {
-        count: f.count,
-        cut: f.cut,
-        lines: lines,
-    }
+    Found { lines, ..f }
 }

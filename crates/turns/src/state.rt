@@ -3,84 +3,54 @@ ghost use Rattle.std.specs.Prelude.{◌≡◌};
 ghost use Rattle.turns.specs.Twins.States.{state_at, after_end, cut_at, after_move};
 
 use crate::found;
-use crate::found::{Ending, Found, cut_off, with_lines};
-use heap::configuration::Moved;
-use lines::end::Ended;
+use crate::found::{Ending, Found, Walked, cut_off, stopped, with_lines};
+use heap::configuration::Configuration;
+use lines::end::Unstored;
+use lines::line::Lines;
 use positions::position::{Position, moved_from};
+use restrictions::failure::Failure;
 
-// What has been found stands first, where it also stands in a `Stop`: a field of one case that lay across two of the other would be moved byte by byte.
-#[derive(Drop)]
+// What has been found stands first, where it also stands in `Walked`: a field of one case of a `Turn` that lay across two of the other would be moved byte by byte.
+#[derive(Clone, Copy)]
 pub struct State {
     pub found: Found,
     pub at: Position,
 }
 
-// How a leaf is left. Back: the walk goes on behind this path. Stop: what the walk comes to.
-#[derive(Drop)]
-pub enum Leaving {
-    Back(State),
-    Stop { ending: Ending, found: Found },
-}
-
-// On: a node that has been entered. Stop: what the walk comes to.
-#[derive(Drop)]
-pub enum Turn {
-    On(State),
-    Stop { ending: Ending, found: Found },
-}
+// A node that the walk goes on from, or what it comes to.
+pub type Turn = Result<State, Walked>;
 
 pub fn state_at(at: Position, found: Found) -> State
     ensures { result ≡ state_at at found }
 {
-    State {
-        at: at,
-        found: found,
-    }
+    State { found, at }
 }
 
 // Behind an end: the walk goes back, or "22", or "21".
-pub fn after_end(s: State, e: Ended) -> Leaving
+pub fn after_end(s: State, e: Result<Lines, Unstored>) -> Turn
     ensures { result ≡ after_end s e }
 {
-    let at = s.at;
-    let f = s.found;
     match e {
-        Ended::Going(l) => Leaving::Back(state_at(at, with_lines(f, l))),
-        Ended::Over => Leaving::Stop {
-            ending: Ending::Over,
-            found: f,
-        },
-        Ended::Full => Leaving::Stop {
-            ending: Ending::Full,
-            found: f,
-        },
+        Ok(l) => Ok(state_at(s.at, with_lines(s.found, l))),
+        Err(Unstored::Over) => Err(stopped(Ending::Over, s.found)),
+        Err(Unstored::Full) => Err(stopped(Ending::Full, s.found)),
     }
 }
 
 // "cut if a configuration N deep is no end"
-pub fn cut(s: State) -> Leaving
+pub fn cut(s: State) -> State
     ensures { result ≡ cut_at s }
 {
-    let at = s.at;
-    let f = s.found;
-    Leaving::Back(state_at(at, cut_off(f)))
+    state_at(s.at, cut_off(s.found))
 }
 
 // The node behind a transition, or 21. A decision has been counted among the choices already.
-pub fn after_move(s: State, m: Moved) -> Turn
+pub fn after_move(s: State, m: Result<Configuration, Failure>) -> Turn
     ensures { result ≡ after_move s m }
 {
-    let at = s.at;
     let f = found::count(s.found);
     match m {
-        Moved::On(c) => Turn::On(state_at(moved_from(at, c, false), f)),
-        Moved::Contradiction => Turn::Stop {
-            ending: Ending::Over,
-            found: f,
-        },
-        Moved::Over => Turn::Stop {
-            ending: Ending::Over,
-            found: f,
-        },
+        Ok(c) => Ok(state_at(moved_from(s.at, c, false), f)),
+        Err(_) => Err(stopped(Ending::Over, f)),
     }
 }

@@ -1,30 +1,27 @@
-// The words of the command line, by the table of commands.
+// The words of the command line.
+use crate::commands::{Command, FILES, SAMPLES};
 use crate::meaning::write_numbers;
-use crate::places::alike;
-use crate::table::Entry;
-use crate::{files, say, table};
-use cells::cell::{byte, less};
-use cells::part::part;
+use crate::{files, say};
 use std::env::{Env, FillError};
 use std::io;
 
 // Room for a word of the command line. A longer one counts as empty.
 const WORD: usize = 4096;
 
-// The word's bytes at the front of `space`: how many they are, none where it is missing or longer than `space`.
-fn argument(env: &impl Env, i: usize, space: &mut [u8; WORD]) -> usize {
+// What `ura help` is asked for beside the commands.
+const NUMBERS: &[u8] = b"numbers";
+
+// The word of this number, in `space`; none where it is missing or longer than that.
+fn word_at<'a>(env: &impl Env, i: usize, space: &'a mut [u8; WORD]) -> &'a [u8] {
     match env.arg(i, space) {
-        Ok(n) => n,
-        Err(FillError::NotPresent | FillError::TooLong) => 0,
+        Ok(n) => &space[..n],
+        Err(FillError::NotPresent | FillError::TooLong) => &[],
     }
 }
 
 // Whether the command line has a word of this number; it may be empty or long.
 fn is_present(env: &impl Env, i: usize) -> bool {
-    match env.arg(i, &mut []) {
-        Err(FillError::NotPresent) => false,
-        _ => true,
-    }
+    !matches!(env.arg(i, &mut []), Err(FillError::NotPresent))
 }
 
 // How many words the command line has, the program's own name among them.
@@ -37,104 +34,69 @@ pub fn count(env: &impl Env) -> usize {
     usize::MAX
 }
 
-fn is_option(env: &impl Env, i: usize) -> bool {
-    let mut space = [0u8; WORD];
-    let n = argument(env, i, &mut space);
-    let word = part(&space, 0, n);
-    if byte(word, 0) != b'-' {
-        return false;
-    }
-    byte(word, 1) == b'-'
-}
-
-// Whether the command takes the option that argument i is; says so where it does not.
-fn is_taken(rt: &HostRuntime, commands: &[u8], e: Entry, i: usize) -> io::Result<bool> {
-    let mut space = [0u8; WORD];
-    let n = argument(rt, i, &mut space);
-    let word = part(&space, 0, n);
-    if table::takes(commands, e, word) {
-        return Ok(true);
-    }
-    say::unknown_option(&rt.stderr(), commands, e, word)?;
-    Ok(false)
-}
-
-// The first argument behind the command that is no option; 0 where one is not the command's.
-fn first_file(rt: &HostRuntime, commands: &[u8], e: Entry) -> io::Result<usize> {
+// The first argument behind the command that is no option. None where an option is not the command's, as standard error then says.
+fn first_file(rt: &HostRuntime, command: Command) -> io::Result<Option<usize>> {
     let count = count(rt);
-    let mut i: usize = 2;
-    while i < count {
-        if !is_option(rt, i) {
-            return Ok(i);
+    for i in 2..count {
+        let mut space = [0u8; WORD];
+        let word = word_at(rt, i, &mut space);
+        if !word.starts_with(b"--") {
+            return Ok(Some(i));
         }
-        if !is_taken(rt, commands, e, i)? {
-            return Ok(0);
+        if !command.takes(word) {
+            say::unknown_option(&rt.stderr(), command, word)?;
+            return Ok(None);
         }
-        i += 1;
     }
-    Ok(i)
-}
-
-fn is_argument(env: &impl Env, i: usize, word: &[u8]) -> bool {
-    let mut space = [0u8; WORD];
-    let n = argument(env, i, &mut space);
-    alike(part(&space, 0, n), word)
+    Ok(Some(count))
 }
 
 // Whether the option stands before argument `first`, the first file.
 fn is_given(env: &impl Env, first: usize, option: &[u8]) -> bool {
-    let mut i: usize = 2;
-    while i < first {
-        if is_argument(env, i, option) {
-            return true;
-        }
-        i += 1;
-    }
-    false
+    (2..first).any(|i| {
+        let mut space = [0u8; WORD];
+        word_at(env, i, &mut space) == option
+    })
 }
 
 // `ura help`, `ura help COMMAND` and `ura help numbers`.
-fn help(rt: &HostRuntime, commands: &[u8]) -> io::Result<()> {
+fn help(rt: &HostRuntime) -> io::Result<()> {
     if count(rt) == 2 {
-        return say::help_all(&rt.stdout(), commands);
+        return say::help_all(&rt.stdout());
     }
     let mut space = [0u8; WORD];
-    let n = argument(rt, 2, &mut space);
-    let word = part(&space, 0, n);
-    if alike(word, b"numbers") {
+    let word = word_at(rt, 2, &mut space);
+    if word == NUMBERS {
         return write_numbers(&rt.stdout());
     }
-    let e = table::find(commands, word);
-    if table::is_found(e) {
-        return say::help(&rt.stdout(), commands, e);
+    match Command::named(word) {
+        Some(command) => say::help(&rt.stdout(), command),
+        None => say::unknown_command(&rt.stderr(), word),
     }
-    say::unknown_command(&rt.stderr(), commands, word)
 }
 
 // A command that takes files.
-fn of_files(rt: &HostRuntime, commands: &[u8], e: Entry, runs: bool) -> io::Result<()> {
-    let first = first_file(rt, commands, e)?;
-    if first == 0 {
+fn of_files(rt: &HostRuntime, command: Command) -> io::Result<()> {
+    let Some(first) = first_file(rt, command)? else {
         return Ok(());
+    };
+    let given = count(rt).saturating_sub(first);
+    if given != FILES {
+        return say::wrong_files(&rt.stderr(), command, given);
     }
-    let given = less(count(rt), first);
-    if given != table::files(commands, e) {
-        return say::wrong_files(&rt.stderr(), commands, e, given);
+    match command {
+        Command::Run => files::run(rt, first),
+        Command::List | Command::Help => files::list(rt, first, is_given(rt, first, SAMPLES)),
     }
-    files::of_files(rt, first, runs, is_given(rt, first, b"--samples"))
 }
 
 // What the first argument asks for.
-pub fn command(rt: &HostRuntime, commands: &[u8]) -> io::Result<()> {
+pub fn command(rt: &HostRuntime) -> io::Result<()> {
     let mut space = [0u8; WORD];
-    let n = argument(rt, 1, &mut space);
-    let word = part(&space, 0, n);
-    let e = table::find(commands, word);
-    if !table::is_found(e) {
-        return say::unknown_command(&rt.stderr(), commands, word);
+    let word = word_at(rt, 1, &mut space);
+    match Command::named(word) {
+        Some(Command::Help) => help(rt),
+        Some(command) => of_files(rt, command),
+        None => say::unknown_command(&rt.stderr(), word),
     }
-    if alike(word, b"help") {
-        return help(rt, commands);
-    }
-    of_files(rt, commands, e, alike(word, b"run"))
 }

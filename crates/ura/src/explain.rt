@@ -1,78 +1,69 @@
 // What an answer means for whoever waits for the listing, in words, on standard error. Standard output has what is printed of it (01, "Printing") and nothing of this.
 use crate::hint::write_hint;
-use crate::meaning::{write, write_meaning};
-use crate::place::{line_end, place_of, shown_byte, shown_part};
+use crate::meaning::meaning;
+use crate::place::{line_from, place_of, shown_byte, shown_part};
 use answers::list::Word;
-use cells::cell::{byte, least};
+use cells::part::part;
+use refusals::refusal::Refusal;
 use std::io;
 
+// A text, and the name of the file that it stands in.
+#[derive(Clone, Copy)]
+pub struct Named<'a> {
+    pub name: &'a [u8],
+    pub text: &'a [u8],
+}
+
 // The bytes of a part of a line: tab and printable ASCII as they are, `?` for what could set a terminal.
-fn write_line(err: &impl Print, text: &[u8], from: usize, to: usize) -> io::Result<()> {
-    let end = least(to, text.len());
-    let mut i = from;
-    while i < end {
-        let one: [u8; 1] = [shown_byte(byte(text, i))];
-        write(err, &one)?;
-        i += 1;
+fn write_line(err: &impl Print, part: &[u8]) -> io::Result<()> {
+    for &b in part {
+        err.write_all(&[shown_byte(b)])?;
     }
     Ok(())
 }
 
 // Under each byte of the line up to the place a blank, or the tab that stands there, so that the caret stands under the place.
-fn write_blanks(err: &impl Print, text: &[u8], from: usize, to: usize) -> io::Result<()> {
-    let end = least(to, text.len());
-    let mut i = from;
-    while i < end {
-        if byte(text, i) == b'\t' {
-            write(err, b"\t")?;
-        } else {
-            write(err, b" ")?;
-        }
-        i += 1;
+fn write_blanks(err: &impl Print, part: &[u8]) -> io::Result<()> {
+    for &b in part {
+        err.write_all(if b == b'\t' { b"\t" } else { b" " })?;
     }
     Ok(())
 }
 
-fn write_where(err: &impl Print, asked: bool, bytes: &[u8]) -> io::Result<()> {
-    if asked {
-        return write(err, bytes);
+// The line, a part of it where it is long, and a caret under the place `at` in it.
+fn show_place(err: &impl Print, line: &[u8], at: usize) -> io::Result<()> {
+    let shown = shown_part(line.len(), at);
+    let before = 0 < shown.start;
+    err.write_all(if before { b"  ..." } else { b"  " })?;
+    write_line(err, part(line, shown.start, shown.end))?;
+    if shown.end < line.len() {
+        err.write_all(b"...")?;
     }
-    Ok(())
-}
-
-// The line that begins at `start`, a part of it where it is long, and a caret under the place.
-fn show_place(err: &impl Print, text: &[u8], start: usize, offset: usize) -> io::Result<()> {
-    let end = line_end(text, start);
-    let e = shown_part(start, end, offset);
-    let from = e.from;
-    let to = e.to;
-    write(err, b"  ")?;
-    write_where(err, start < from, b"...")?;
-    write_line(err, text, from, to)?;
-    write_where(err, to < end, b"...")?;
-    write(err, b"\n  ")?;
-    write_where(err, start < from, b"   ")?;
-    write_blanks(err, text, from, offset)?;
-    write(err, b"^\n")
+    err.write_all(if before { b"\n     " } else { b"\n  " })?;
+    write_blanks(err, part(line, shown.start, at))?;
+    err.write_all(b"^\n")
 }
 
 // `FILE:LINE:COLUMN: refused 9: this variable is not in reach`, the line, and a caret under the place.
-pub fn refusal(
-    err: &impl Print,
-    name: &[u8],
-    text: &[u8],
-    number: usize,
-    offset: usize,
-) -> io::Result<()> {
-    let p = place_of(text, offset);
-    write(err, name)?;
-    print!(err; ":{}:{}: refused {number}: ", p.line, p.column)?;
-    write_meaning(err, number)?;
-    write(err, b"\n")?;
-    if text.len() == 0 {
+pub fn refusal(err: &impl Print, refused: Named, refusal: Refusal) -> io::Result<()> {
+    let Named { name, text } = refused;
+    let Refusal { number, offset } = refusal;
+    let place = place_of(text, offset);
+    err.write_all(name)?;
+    println!(err;
+        ":{}:{}: refused {number}: {}",
+        place.line,
+        place.column,
+        meaning(number)
+    )?;
+    if text.is_empty() {
         return Ok(());
     }
-    show_place(err, text, p.start, offset)?;
+    show_place(
+        err,
+        line_from(text, place.start),
+        offset.saturating_sub(place.start),
+    )?;
     write_hint(err, text, offset)
 }
 
@@ -80,20 +71,16 @@ pub fn refusal(
 pub fn ending(err: &impl Print, word: Word) -> io::Result<()> {
     match word {
         Word::Whole => Ok(()),
-        Word::Cut => write(
-            err,
+        Word::Cut => err.write_all(
             b"NOT COMPLETE: some files of the class run longer than the job's steps, and what they get is not listed\n",
         ),
-        Word::Stop21 => write(
-            err,
+        Word::Stop21 => err.write_all(
             b"NOT COMPLETE: stopped at a configuration of over 4096 nodes; the lines are a beginning. Narrow the job\n",
         ),
-        Word::Stop22 => write(
-            err,
+        Word::Stop22 => err.write_all(
             b"NOT COMPLETE: the table is full; the lines are a beginning. Raise table, or narrow the job\n",
         ),
-        Word::Stop23 => write(
-            err,
+        Word::Stop23 => err.write_all(
             b"NOT COMPLETE: the walk's transitions are used up; the lines are a beginning. Raise walk, or narrow the job\n",
         ),
     }

@@ -1,12 +1,10 @@
 // The texts of two files listed or run, and what the answer means for whoever reads it.
-use crate::explain::{ending, refusal};
-use crate::places::alike;
+use crate::explain::{Named, ending, refusal};
 use answers::list;
-use cells::cell::least;
-use cells::part::part;
 use pages::files::{JOB, PROGRAM, read_file, read_input};
 use pages::output::{Written, list_texts, run_texts};
-use run_answers::run;
+use refusals::refusal::Refused;
+use run_answers::run::{self, Ran};
 use std::env::{Env, FillError};
 use std::io;
 use streams::failure::{fail, name_too_long};
@@ -14,171 +12,136 @@ use streams::failure::{fail, name_too_long};
 // Room for a file's name.
 const NAME: usize = 4096;
 
+// The name that stands for standard input.
+const STANDARD_INPUT: &[u8] = b"-";
+
 // Lines that are missing must not go unnoticed: a loader is released from the list.
 fn report(err: &impl Print, written: Written) -> io::Result<()> {
-    match written.error {
-        None => Ok(()),
-        Some(error) => {
-            fail(err, b"ura: standard output", &error);
-            err.write_all(b"ura: what was printed is NOT COMPLETE\n")
-        }
+    let Err(error) = written.ended else {
+        return Ok(());
+    };
+    fail(err, b"ura: standard output", &error);
+    err.write_all(b"ura: what was printed is NOT COMPLETE\n")
+}
+
+// Where a text is refused; of storage that is too short nothing is said, which is none that this program lends.
+fn explain_refused(
+    err: &impl Print,
+    refused: Refused,
+    program: Named,
+    job: Named,
+) -> io::Result<()> {
+    match refused {
+        Refused::Program(r) => refusal(err, program, r),
+        Refused::Job(r) => refusal(err, job, r),
+        Refused::Short => Ok(()),
     }
 }
 
 fn explain_list(
     err: &impl Print,
     answer: list::Answer,
-    program_name: &[u8],
-    program: &[u8],
-    job_name: &[u8],
-    job: &[u8],
+    program: Named,
+    job: Named,
 ) -> io::Result<()> {
     match answer {
-        list::Answer::Listed {
-            word,
-            lines: _,
-            count: _,
-        } => ending(err, word),
-        list::Answer::Program { number, offset } => {
-            refusal(err, program_name, program, number, offset)
-        }
-        list::Answer::Job { number, offset } => refusal(err, job_name, job, number, offset),
-        list::Answer::Short => Ok(()),
+        Ok(listed) => ending(err, listed.word),
+        Err(refused) => explain_refused(err, refused, program, job),
     }
-}
-
-fn run_ending(err: &impl Print, words: &[u8]) -> io::Result<()> {
-    err.write_all(words)
 }
 
 fn explain_run(
     err: &impl Print,
     answer: run::Answer,
-    program_name: &[u8],
-    program: &[u8],
-    job_name: &[u8],
-    job: &[u8],
+    program: Named,
+    job: Named,
 ) -> io::Result<()> {
     match answer {
-        run::Answer::Value {
-            steps: _,
-            length: _,
-        } => Ok(()),
-        run::Answer::Over => run_ending(
-            err,
+        Ok(Ran::Value { .. }) => Ok(()),
+        Ok(Ran::Over) => err.write_all(
             b"NOT COMPLETE: a state of the run has over 4096 nodes, and the run stopped there without a value\n",
         ),
-        run::Answer::NotWithin => run_ending(
-            err,
+        Ok(Ran::NotWithin) => err.write_all(
             b"NOT COMPLETE: the run reaches no end within the job's steps and has no value\n",
         ),
-        run::Answer::Program { number, offset } => {
-            refusal(err, program_name, program, number, offset)
-        }
-        run::Answer::Job { number, offset } => refusal(err, job_name, job, number, offset),
-        run::Answer::Short => Ok(()),
+        Err(refused) => explain_refused(err, refused, program, job),
     }
 }
 
-fn list_named(
-    rt: &HostRuntime,
-    samples: bool,
-    program_name: &[u8],
-    program: &[u8],
-    job_name: &[u8],
-    job: &[u8],
-) -> io::Result<()> {
+fn list_named(rt: &HostRuntime, samples: bool, program: Named, job: Named) -> io::Result<()> {
     let err = rt.stderr();
-    let listed = list_texts(rt, &mut rt.stdout(), samples, program, job);
-    let answer = listed.answer;
-    let written = listed.written;
-    report(&err, written)?;
-    explain_list(&err, answer, program_name, program, job_name, job)
+    let listed = list_texts(rt, &mut rt.stdout(), samples, program.text, job.text);
+    report(&err, listed.written)?;
+    explain_list(&err, listed.answer, program, job)
 }
 
-fn run_named(
-    rt: &HostRuntime,
-    program_name: &[u8],
-    program: &[u8],
-    job_name: &[u8],
-    job: &[u8],
-) -> io::Result<()> {
+fn run_named(rt: &HostRuntime, program: Named, job: Named) -> io::Result<()> {
     let err = rt.stderr();
-    let ran = run_texts(rt, &mut rt.stdout(), program, job);
-    let answer = ran.answer;
-    let written = ran.written;
-    report(&err, written)?;
-    explain_run(&err, answer, program_name, program, job_name, job)
+    let ran = run_texts(rt, &mut rt.stdout(), program.text, job.text);
+    report(&err, ran.written)?;
+    explain_run(&err, ran.answer, program, job)
 }
 
-// `ura` alone.
+// The file with the name, its text in `space`; `-` is standard input.
+fn read_named<'a>(rt: &HostRuntime, name: &'a [u8], space: &'a mut [u8]) -> Named<'a> {
+    let err = rt.stderr();
+    let n = if name == STANDARD_INPUT {
+        read_input(rt, &err, space)
+    } else {
+        read_file(rt, &err, name, space)
+    };
+    Named {
+        name,
+        text: &space[..n],
+    }
+}
+
+// `ura` alone. A file of these names is read, and not standard input.
 pub fn list_here(rt: &HostRuntime) -> io::Result<()> {
-    let err = rt.stderr();
     let mut program_space = [0u8; PROGRAM];
     let mut job_space = [0u8; JOB];
-    let program: &mut [u8] = &mut program_space;
-    let job: &mut [u8] = &mut job_space;
-    let p = read_file(rt, &err, b"prog.tsg", program);
-    let j = read_file(rt, &err, b"job.txt", job);
-    list_named(
-        rt,
-        false,
-        b"prog.tsg",
-        part(program, 0, p),
-        b"job.txt",
-        part(job, 0, j),
-    )
+    let program = read_named(rt, b"prog.tsg", &mut program_space);
+    let job = read_named(rt, b"job.txt", &mut job_space);
+    list_named(rt, false, program, job)
 }
 
-// The bytes of the file with the name; `-` is standard input.
-fn read_named(rt: &HostRuntime, name: &[u8], buf: &mut [u8]) -> usize {
-    let err = rt.stderr();
-    if alike(name, b"-") {
-        return read_input(rt, &err, buf);
-    }
-    read_file(rt, &err, name, buf)
-}
-
-// The name that argument i is. One that is too long names no file, as standard error then says.
-fn name_of(rt: &HostRuntime, i: usize, name: &mut [u8; NAME]) -> usize {
-    match rt.arg(i, name) {
-        Ok(n) => n,
-        Err(FillError::NotPresent) => 0,
+// The name that argument i is, in `space`. One that is too long names no file, as standard error then says.
+fn name_at<'a>(rt: &HostRuntime, i: usize, space: &'a mut [u8; NAME]) -> &'a [u8] {
+    match rt.arg(i, space) {
+        Ok(n) => &space[..n],
+        Err(FillError::NotPresent) => &[],
         Err(FillError::TooLong) => {
             fail(&rt.stderr(), b"ura: a file's name", &name_too_long());
-            0
+            &[]
         }
     }
 }
 
-// The files that argument i and the next name, listed, with samples where they are called for, or run.
-pub fn of_files(rt: &HostRuntime, i: usize, runs: bool, samples: bool) -> io::Result<()> {
+// The texts of the files that argument i and the next name, handed on.
+fn with_files<F: FnOnce(Named, Named) -> io::Result<()>>(
+    rt: &HostRuntime,
+    i: usize,
+    hand_on: F,
+) -> io::Result<()>
+    requires { F.IsAlwaysCallable hand_on }
+{
     let mut program_name = [0u8; NAME];
     let mut job_name = [0u8; NAME];
     let mut program_space = [0u8; PROGRAM];
     let mut job_space = [0u8; JOB];
-    let program: &mut [u8] = &mut program_space;
-    let job: &mut [u8] = &mut job_space;
-    let a = name_of(rt, i, &mut program_name);
-    let b = name_of(rt, least(i, 65536) + 1, &mut job_name);
-    let p = read_named(rt, part(&program_name, 0, a), program);
-    let j = read_named(rt, part(&job_name, 0, b), job);
-    let names = part(&program_name, 0, a);
-    if runs {
-        return run_named(
-            rt,
-            names,
-            part(program, 0, p),
-            part(&job_name, 0, b),
-            part(job, 0, j),
-        );
-    }
-    list_named(
-        rt,
-        samples,
-        names,
-        part(program, 0, p),
-        part(&job_name, 0, b),
-        part(job, 0, j),
-    )
+    let a = name_at(rt, i, &mut program_name);
+    let b = name_at(rt, i.saturating_add(1), &mut job_name);
+    let program = read_named(rt, a, &mut program_space);
+    let job = read_named(rt, b, &mut job_space);
+    hand_on(program, job)
+}
+
+// They are listed, with samples where they are called for.
+pub fn list(rt: &HostRuntime, i: usize, samples: bool) -> io::Result<()> {
+    with_files(rt, i, |program, job| list_named(rt, samples, program, job))
+}
+
+// The program is run on the job's inputs.
+pub fn run(rt: &HostRuntime, i: usize) -> io::Result<()> {
+    with_files(rt, i, |program, job| run_named(rt, program, job))
 }

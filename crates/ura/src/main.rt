@@ -11,14 +11,13 @@
 #![tactic(auto)]
 
 mod arguments;
+mod commands;
 mod explain;
 mod files;
 mod hint;
 mod meaning;
 mod place;
-mod places;
 mod say;
-mod table;
 
 use std::io;
 
@@ -26,8 +25,5 @@ fn main(rt: HostRuntime) -> io::Result<()> {
     if arguments::count(&rt) == 1 {
         return files::list_here(&rt);
     }
-    arguments::command(
-        &rt,
-        b"list [--samples] PROG JOB: every sort of input that gets the wanted output, one a line; --samples: one such input under each\nrun PROG JOB: the program run forwards on the job's inputs\nhelp [COMMAND]: what the commands do; help numbers: what the numbers of refusals and stops mean\n",
-    )
+    arguments::command(&rt)
 }

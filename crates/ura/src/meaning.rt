@@ -1,87 +1,35 @@
 // Each number of a refusal (01, "From the input"; 13: 02, request 1) and of a stop ("From the state", "The walk and what stops it") in words.
 use std::io;
 
-pub fn write(to: &impl Print, bytes: &[u8]) -> io::Result<()> {
-    to.write_all(bytes)
-}
-
-// 1 to 6.
-fn write_early(to: &impl Print, number: usize) -> io::Result<()> {
-    match number {
-        1 => write(
-            to,
-            b"the text is too long: a program has at most 32768 bytes, a job 8192",
-        ),
-        2 => write(
-            to,
-            b"this byte is none of those that a text may have: printable ASCII, tab, line feed",
-        ),
-        3 => write(
-            to,
-            b"the grammar wants something else here, or the text ends too early",
-        ),
-        4 => write(
-            to,
-            b"a name of over 16 characters, a numeral of over 7 digits, or a variable's number that is not 1 to 999",
-        ),
-        5 => write(
-            to,
-            b"too many: 4096 tokens, 64 open brackets, 64 definitions, 16 parameters or 1024 symbols are the most",
-        ),
-        _ => write(to, b"this name is defined or bound twice"),
-    }
-}
-
-// 7 to 13.
-fn write_late(to: &impl Print, number: usize) -> io::Result<()> {
-    match number {
-        7 => write(
-            to,
-            b"no function of this name, or a wrong number of arguments",
-        ),
-        8 => write(to, b"an atom is due here: a symbol or a variable a.NAME"),
-        9 => write(to, b"this variable is not in reach"),
-        10 => write(
-            to,
-            b"the job's inputs are unlike main's parameters in number or kind, or one has a variable in a run",
-        ),
-        11 => write(
-            to,
-            b"this side of a non-equality is no atom, or its variable stands in neither input nor output",
-        ),
-        12 => write(
-            to,
-            b"the number is too large: steps 1000, walk 1000000, table 256 are the most",
-        ),
-        _ => write(
-            to,
-            b"this name is in reach already: a cons? binds new names alone",
-        ),
-    }
-}
-
 // The sentence of a number of 1 to 13 and 20 to 23.
-pub fn write_meaning(to: &impl Print, number: usize) -> io::Result<()> {
+pub fn meaning(number: usize) -> &'static str {
     match number {
-        1..=6 => write_early(to, number),
-        7..=13 => write_late(to, number),
-        20 => write(to, b"the storage that was lent is too short"),
-        21 => write(to, b"a configuration has over 4096 nodes"),
-        22 => write(
-            to,
-            b"the listing has more lines than the job's table, or over 16384 nodes in them",
-        ),
-        _ => write(
-            to,
-            b"the walk makes more transitions than the job's walk allows",
-        ),
+        1 => "the text is too long: a program has at most 32768 bytes, a job 8192",
+        2 => "this byte is none of those that a text may have: printable ASCII, tab, line feed",
+        3 => "the grammar wants something else here, or the text ends too early",
+        4 =>
+            "a name of over 16 characters, a numeral of over 7 digits, or a variable's number that is not 1 to 999",
+        5 =>
+            "too many: 4096 tokens, 64 open brackets, 64 definitions, 16 parameters or 1024 symbols are the most",
+        6 => "this name is defined or bound twice",
+        7 => "no function of this name, or a wrong number of arguments",
+        8 => "an atom is due here: a symbol or a variable a.NAME",
+        9 => "this variable is not in reach",
+        10 =>
+            "the job's inputs are unlike main's parameters in number or kind, or one has a variable in a run",
+        11 =>
+            "this side of a non-equality is no atom, or its variable stands in neither input nor output",
+        12 => "the number is too large: steps 1000, walk 1000000, table 256 are the most",
+        13 => "this name is in reach already: a cons? binds new names alone",
+        20 => "the storage that was lent is too short",
+        21 => "a configuration has over 4096 nodes",
+        22 => "the listing has more lines than the job's table, or over 16384 nodes in them",
+        _ => "the walk makes more transitions than the job's walk allows",
     }
 }
 
 fn write_number(to: &impl Print, number: usize) -> io::Result<()> {
-    print!(to; "{number}  ")?;
-    write_meaning(to, number)?;
-    write(to, b"\n")
+    println!(to; "{number}  {}", meaning(number))
 }
 
 // All of them, a line each.

@@ -1,5 +1,5 @@
 // Where a byte of a text stands, and what is shown of its line.
-use cells::cell::{least, less};
+use std::ops::Range;
 
 // How much of a long line is shown, and how much of that stands before the place.
 const SHOWN: usize = 100;
@@ -7,84 +7,49 @@ const SHOWN: usize = 100;
 const BEFORE: usize = 60;
 
 // Its line and its column, both from 1 on, and the index of the line's first byte.
-#[derive(Drop)]
+#[derive(Clone, Copy)]
 pub struct Place {
     pub line: usize,
     pub column: usize,
     pub start: usize,
 }
 
-// One more; no text has so many bytes that it stops short.
-fn next(n: usize) -> usize {
-    if n < 65536 { n + 1 } else { n }
-}
-
 pub fn place_of(text: &[u8], offset: usize) -> Place {
-    let mut line: usize = 1;
-    let mut column: usize = 1;
-    let mut start: usize = 0;
-    let mut i: usize = 0;
-    while i < text.len() {
-        if offset <= i {
-            break;
-        }
-        let b = text[i];
-        i += 1;
-        if b == b'\n' {
-            line = next(line);
-            column = 1;
-            start = i;
-        } else {
-            column = next(column);
-        }
-    }
+    let before = &text[..offset.min(text.len())];
+    let feeds = before.iter().filter(|b| **b == b'\n').count();
+    let start = match before.iter().rposition(|b| *b == b'\n') {
+        Some(feed) => feed + 1,
+        None => 0,
+    };
     Place {
-        line: line,
-        column: column,
-        start: start,
+        line: feeds.saturating_add(1),
+        column: before.len().saturating_sub(start).saturating_add(1),
+        start,
     }
 }
 
-// The index of the first line feed from `start` on, or the text's length.
-pub fn line_end(text: &[u8], start: usize) -> usize {
-    let mut i = start;
-    while i < text.len() {
-        if text[i] == b'\n' {
-            break;
-        }
-        i += 1;
+// The line that begins at `start`, without its line feed.
+pub fn line_from(text: &[u8], start: usize) -> &[u8] {
+    let rest = &text[start.min(text.len())..];
+    match rest.iter().position(|b| *b == b'\n') {
+        Some(feed) => &rest[..feed],
+        None => rest,
     }
-    i
 }
 
-// The part of a line that is shown.
-#[derive(Drop)]
-pub struct Excerpt {
-    pub from: usize,
-    pub to: usize,
-}
-
-// All of a line from `start` to `end`, or of a long one what stands around the place.
-pub fn shown_part(start: usize, end: usize, place: usize) -> Excerpt {
-    if less(end, start) <= SHOWN {
-        return Excerpt {
-            from: start,
-            to: end,
-        };
+// The part that is shown of a line of this length: all of it, or of a long one what stands around the place `at`.
+pub fn shown_part(length: usize, at: usize) -> Range<usize> {
+    if length <= SHOWN {
+        return 0..length;
     }
-    let near = less(place, BEFORE);
-    let from = if start < near { near } else { start };
-    Excerpt {
-        from: from,
-        to: least(end, least(from, 65536) + SHOWN),
-    }
+    let from = at.saturating_sub(BEFORE);
+    from..length.min(from.saturating_add(SHOWN))
 }
 
 // A byte as it is shown: tab and printable ASCII alone, since others could set a terminal.
 pub fn shown_byte(b: u8) -> u8 {
     match b {
-        b'\t' => b,
-        b' '..=b'~' => b,
+        b'\t' | b' '..=b'~' => b,
         _ => b'?',
     }
 }

@@ -8,6 +8,8 @@ use native.Mathlib.Decide.{dec_le}
 use lib.ListN.{length, set}
 use lib.Seq.{sets, length-sets}
 use borrow.Author.Tests.{lt-ltb, le-ltb}
+use Rattle.std.specs.Prelude.{Some, None, Ok, Err}
+use Rattle.restrictions.specs.declared.failure.Failure.TheVariants.{Over}
 use Rattle.expressions.specs.Expression.{Exp, nodes_all}
 use Rattle.expressions.specs.Substitution.{Substitution, apply, apply_atomic, apply_all}
 use Rattle.expressions.specs.Restriction.{Restriction, nodes_restriction}
@@ -16,13 +18,11 @@ use Rattle.language.specs.Program.{Param}
 use Rattle.semantics.specs.Environment.{add_e, add_a}
 use Rattle.semantics.specs.Configuration.{state, apply_env, nodes_state}
 use Rattle.sets.specs.Cells.{pair_code}
-use Rattle.sets.specs.declared.fill.Filled.TheVariants.{Done, Over as FilledOver}
 use Rattle.restrictions.proofs.RestrictionLaws.{Front}
 use Rattle.runs.specs.Twins.Runs.{cells_at}
 use Rattle.heap.specs.Twins.Contracted.{Stores, contracted_from, contracted_entries}
 use Rattle.heap.specs.Twins.Moving.{bound_cell, bound_pair}
 use Rattle.heap.specs.declared.configuration.Configuration.{Configuration}
-use Rattle.heap.specs.declared.configuration.Moved.TheVariants.{On, Over}
 use Rattle.runs.proofs.RunLaws.{Below, below_self, below_sets, written_done}
 use Rattle.heap.proofs.HeapLaws.{Range, Filling, sets_cells}
 use Rattle.heap.proofs.FrameLaws.{Held, held_kept, Contracts, contract_means}
@@ -111,16 +111,16 @@ module _ {h f q : List ℕ} {c : Configuration} {names : List Param} {P : CRPair
 
   -- "21 over 4,096 nodes: .. after a transition"
   module _ (few : c.entries ≤ 4120) where
-    pub pair_on : nodes_state P ≤ 4096 → sized_as c f ≡ On c
+    pub pair_on : nodes_state P ≤ 4096 → sized_as c f ≡ Ok c
     pair_on l = sized_on x.held (omega (arith, x.entries)) c x.entries (omega (arith, held_pair_nodes, x.count))
 
-    pub pair_over : 4096 < nodes_state P → sized_as c f ≡ Over
+    pub pair_over : 4096 < nodes_state P → sized_as c f ≡ Err Over
     pair_over l = sized_over x.held (omega (arith, x.entries)) c x.entries (omega (arith, held_pair_nodes, x.count))
 
 -- What contracting the entries leaves: the storages hold P, and what was used of the heap before is as it was.
 pub record AppliedTo (h q : List ℕ) (c : Configuration) (names : List Param) (P : CRPair state) (from : ℕ) (w : Stores) : Type 0 where
   pub now : ℕ
-  pub done : w.answer ≡ Done now
+  pub done : w.answer ≡ Some now
   pub grown : c.used ≤ now
   pub most : now ≤ from + nodes_state P
   pub same : Below c.used w.heap h
@@ -128,7 +128,7 @@ pub record AppliedTo (h q : List ℕ) (c : Configuration) (names : List Param) (
 
 -- or the heap has no room for its nodes from a place on
 abbrev pub AppliedOutcome : List ℕ → List ℕ → Configuration → List Param → CRPair state → ℕ → Stores → Type 0
-AppliedOutcome h q c names P from w = ((w.answer ≡ FilledOver) × (65535 < from + nodes_state P)) ⊎ AppliedTo h q c names P from w
+AppliedOutcome h q c names P from w = ((w.answer ≡ None) × (65535 < from + nodes_state P)) ⊎ AppliedTo h q c names P from w
 
 module _ {h f q : List ℕ} {c : Configuration} {names : List Param} {P : CRPair state} (x : HoldsPair h f q c names P) (few : c.entries ≤ 4120)
     {var : ℕ} {v : List ℕ} {s : Substitution} (fill : Filling var v s) where

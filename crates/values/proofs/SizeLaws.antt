@@ -5,9 +5,10 @@ use mathlib.Core.List.{List}
 use native.Mathlib.Omega.{arith}
 use lib.ListN.{length}
 use borrow.Author.Tests.{lt-ltb, le-ltb}
+use Rattle.std.specs.Prelude.{Ok, Err}
+use Rattle.restrictions.specs.declared.failure.Failure.TheVariants.{Over}
 use Rattle.expressions.specs.Expression.{Exp, nodes_all}
 use Rattle.heap.specs.declared.configuration.Configuration.{Configuration}
-use Rattle.heap.specs.declared.configuration.Moved.TheVariants.{On, Over}
 use Rattle.heap.proofs.FrameLaws.{Held}
 use Rattle.heap.proofs.NodeLaws.{held_nodes}
 use Rattle.values.specs.Twins.Sizes.{kept_nodes, sized_as}
@@ -18,10 +19,10 @@ module _ {h f : List ℕ} {used : ℕ} {ts : List Exp} (held : Held h used f 0 t
   kept_is neqs = let z : min (length ts) 4120 ≡ length ts = omega arith in rw (z, held_nodes held)
 
   module _ (c : Configuration) (all : c.entries ≡ length ts) where
-    pub sized_on : nodes_all ts + 2 * c.neqs ≤ 4096 → sized_as c f ≡ On c
+    pub sized_on : nodes_all ts + 2 * c.neqs ≤ 4096 → sized_as c f ≡ Ok c
     unfolding sized_as
     sized_on l = rw (all, kept_is c.neqs, le-ltb 4096 (min (nodes_all ts) 4097 + 2 * min c.neqs 4097) (omega arith))
 
-    pub sized_over : 4096 < nodes_all ts + 2 * c.neqs → sized_as c f ≡ Over
+    pub sized_over : 4096 < nodes_all ts + 2 * c.neqs → sized_as c f ≡ Err Over
     unfolding sized_as
     sized_over l = rw (all, kept_is c.neqs, lt-ltb 4096 (min (nodes_all ts) 4097 + 2 * min c.neqs 4097) (omega arith))

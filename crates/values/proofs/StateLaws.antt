@@ -9,6 +9,8 @@ use native.Mathlib.Omega.{arith}
 use lib.Dec.{eqb}
 use lib.ListN.{length}
 use borrow.Author.Tests.{eqb-false}
+use Rattle.std.specs.Prelude.{Ok, Err}
+use Rattle.restrictions.specs.declared.failure.Failure.TheVariants.{Over}
 use Rattle.expressions.specs.Expression.{AtomicExp, sym, avar, Exp, atm, evar, pair, nodes_all}
 use Rattle.expressions.specs.Restriction.{nodes_restriction}
 use Rattle.expressions.specs.Contraction.{CRPair}
@@ -22,7 +24,6 @@ use Rattle.semantics.specs.Configuration.{state, nodes_values, nodes_state, Conf
 use Rattle.semantics.proofs.Scopes.{Covers}
 use Rattle.heap.specs.Twins.Moving.{Left}
 use Rattle.heap.specs.declared.configuration.Configuration.{Configuration as InCells}
-use Rattle.heap.specs.declared.configuration.Moved.TheVariants.{On, Over}
 use Rattle.runs.proofs.RunLaws.{Below}
 use Rattle.heap.proofs.HeapLaws.{nodes_positive}
 use Rattle.heap.proofs.FrameLaws.{Held}
@@ -123,7 +124,7 @@ module _ (p : Prog) (bodies : ℕ → ℕ) (code : List ℕ) where
   -- They hold K after a transition; what was used of the heap before is as it was.
   pub record Arrives (h : List ℕ) (used : ℕ) (K : Configuration) (w : Left) : Type 0 where
     pub at : InCells
-    pub moved : w.answer ≡ On at
+    pub moved : w.answer ≡ Ok at
     pub stands : Stands w.heap w.frame w.q at K
     pub same : Below used w.heap h
     pub grown : used ≤ at.used
@@ -131,11 +132,11 @@ module _ (p : Prog) (bodies : ℕ → ℕ) (code : List ℕ) where
 
   -- What a transition to o leaves: storages that hold it, or it is over 21 and they have no room for it. One that contradicts is never taken.
   pub record Leads (h : List ℕ) (used : ℕ) (o : Option Configuration) (w : Left) : Type 0 where
-    pub to : (K : Configuration) → o ≡ some K → ((w.answer ≡ Over) × (4097 < nodes_state K.cr)) ⊎ Arrives h used K w
+    pub to : (K : Configuration) → o ≡ some K → ((w.answer ≡ Err Over) × (4097 < nodes_state K.cr)) ⊎ Arrives h used K w
 
   pub none_leads : {h : List ℕ} {used : ℕ} (w : Left) → Leads h used none w
   none_leads w = record { to = λ K e. let z : ◌≡◌ {A = ℕ} 0 1 = cc in absurd (omega arith) }
 
   -- to one configuration
-  pub leads_to : {h : List ℕ} {used : ℕ} (K : Configuration) (w : Left) → ((w.answer ≡ Over) × (4097 < nodes_state K.cr)) ⊎ Arrives h used K w → Leads h used (some K) w
-  leads_to {h} {used} K w r = record { to = λ L e. let z : K ≡ L = cc in subst (λ (M : Configuration). ((w.answer ≡ Over) × (4097 < nodes_state M.cr)) ⊎ Arrives h used M w) z r }
+  pub leads_to : {h : List ℕ} {used : ℕ} (K : Configuration) (w : Left) → ((w.answer ≡ Err Over) × (4097 < nodes_state K.cr)) ⊎ Arrives h used K w → Leads h used (some K) w
+  leads_to {h} {used} K w r = record { to = λ L e. let z : K ≡ L = cc in subst (λ (M : Configuration). ((w.answer ≡ Err Over) × (4097 < nodes_state M.cr)) ⊎ Arrives h used M w) z r }

@@ -8,14 +8,13 @@ use lib.Dec.{eqb, ltb}
 use lib.ListN.{length, get_or}
 use lib.Seq.{sets, length-sets}
 use borrow.Author.Tests.{lt-ltb, le-ltb, le-leb, lt-leb, ltb-true}
+use Rattle.std.specs.Prelude.{Option, Some, None}
 use Rattle.expressions.specs.Expression.{AtomicExp, sym, avar, Exp, atm, evar, pair, nodes}
 use Rattle.expressions.specs.Substitution.{Substitution, apply}
 use Rattle.language.specs.Program.{Param, pe, pa, atom_of}
 use Rattle.semantics.specs.Configuration.{subst_of_env}
 use Rattle.sets.specs.Cells.{cells}
 use Rattle.sets.specs.Twins.Fill.{FillAnswer, fill_answer}
-use Rattle.sets.specs.declared.fill.Filled.{Filled}
-use Rattle.sets.specs.declared.fill.Filled.TheVariants.{Done, Over as FilledOver}
 use Rattle.sets.proofs.CellLaws.{cells_nodes}
 use Rattle.runs.specs.Twins.Runs.{cells_at, run}
 use Rattle.heap.specs.Twins.Entries.{entry_known, entry_from, entry_to}
@@ -33,9 +32,8 @@ use Rattle.linking.specs.Twins.Linked.{place_in, ExpLinked, sym_linked, e_linked
 use Rattle.linking.specs.Twins.Places.{env_of}
 use Rattle.linking.proofs.AgreeLaws.{exp_goes_on}
 use Rattle.linking.proofs.PlaceLaws.{lookup_e, lookup_a}
-use Rattle.values.specs.Twins.Values.{entry_at, onward_fill, token_written, tokens_written, ValueLeft, value_left, made_at, head_end_at, known_pair, made_of, value_at}
+use Rattle.values.specs.Twins.Values.{entry_at, onward_fill, token_written, tokens_written, ValueLeft, value_left, valued, made_at, head_end_at, known_pair, made_of, value_at}
 use Rattle.values.specs.declared.value.Valued.{Valued}
-use Rattle.values.specs.declared.value.Valued.TheVariants.{At, Over}
 
 -- an entry among those that hold
 pub held_at : {h : List ℕ} {used : ℕ} {f : List ℕ} {i : ℕ} {ts : List Exp} (d : Exp) (m : ℕ) → Held h used f i ts → m < length ts → Holds h used (entry_from f (i + m)) (entry_to f (i + m)) (get_or ts m d)
@@ -99,19 +97,19 @@ module _ (code f : List ℕ) (base : ℕ) where
       let z : suc a + b ≡ suc (a + b) = omega arith in
       rw z (go (token_written code f base i k h).answer (token_written code f base i k h).cells (λ m u. two_parts a b (i + 1) m u))
     where
-      go : (r : Filled) (g : List ℕ) → ((m : ℕ) (u : List ℕ) → wrote (a + b) (i + 1) m u ≡ (let w = wrote a (i + 1) m u in onward_fill (λ n v. wrote b (i + 1 + a) n v) w.answer w.cells)) →
+      go : (r : Option ℕ) (g : List ℕ) → ((m : ℕ) (u : List ℕ) → wrote (a + b) (i + 1) m u ≡ (let w = wrote a (i + 1) m u in onward_fill (λ n v. wrote b (i + 1 + a) n v) w.answer w.cells)) →
           onward_fill (λ m u. wrote (a + b) (i + 1) m u) r g ≡
           (let w = onward_fill (λ m u. wrote a (i + 1) m u) r g in onward_fill (λ m u. wrote b (i + suc a) m u) w.answer w.cells)
-      go (Done m) g again = let y : i + 1 + a ≡ i + suc a = omega arith in again m g ∙ rw y
-      go FilledOver g again = refl
+      go (Some m) g again = let y : i + 1 + a ≡ i + suc a = omega arith in again m g ∙ rw y
+      go None g again = refl
 
   -- what is no `cons`
-  pub small_made : (used i past : ℕ) (h : List ℕ) → past - i ≤ 2 → (r : Filled) (g : List ℕ) → fill_answer r g ≡ wrote (past - i) i used h → (v : Valued) → v ≡ made_at used 0 r → value_left v g ≡ made_of code f base used i past h
+  pub small_made : (used i past : ℕ) (h : List ℕ) → past - i ≤ 2 → (r : Option ℕ) (g : List ℕ) → fill_answer r g ≡ wrote (past - i) i used h → (v : Option Valued) → v ≡ made_at used 0 r → value_left v g ≡ made_of code f base used i past h
   unfolding made_of
-  small_made used i past h l r g e v done = rw (le-leb (past - i) 2 l, ← e) (ap (λ (x : Valued). value_left x g) done)
+  small_made used i past h l r g e v done = rw (le-leb (past - i) 2 l, ← e) (ap (λ (x : Option Valued). value_left x g) done)
 
   -- a `cons` by its head and what follows
-  module _ (used i past j : ℕ) (h : List ℕ) (is : j ≡ head_end_at code i past) (low : i ≤ j) (high : j ≤ past) (cons : 2 < past - i) (r : Filled) (g : List ℕ) (head : fill_answer r g ≡ wrote (j - i) i used h) where
+  module _ (used i past j : ℕ) (h : List ℕ) (is : j ≡ head_end_at code i past) (low : i ≤ j) (high : j ≤ past) (cons : 2 < past - i) (r : Option ℕ) (g : List ℕ) (head : fill_answer r g ≡ wrote (j - i) i used h) where
     whole_is : wrote (past - i) i used h ≡ onward_fill (λ m u. wrote (past - j) j m u) r g
     whole_is =
         let n : past - i ≡ (j - i) + (past - j) = omega arith in
@@ -122,48 +120,48 @@ module _ (code f : List ℕ) (base : ℕ) where
     head_is : (wrote (head_end_at code i past - i) i used h).answer ≡ r
     head_is = ap (λ (a : ℕ). (wrote (a - i) i used h).answer) (inv is) ∙ ap (λ (w : FillAnswer). w.answer) (inv head)
 
-    pub pair_made_lem : (k : ℕ) → r ≡ Done k → (q : Filled) (u : List ℕ) → fill_answer q u ≡ wrote (past - j) j k g → (kn : ℕ) → kn ≡ known_pair (k - used) → (v : Valued) → v ≡ made_at used kn q → value_left v u ≡ made_of code f base used i past h
+    pub pair_made_lem : (k : ℕ) → r ≡ Some k → (q : Option ℕ) (u : List ℕ) → fill_answer q u ≡ wrote (past - j) j k g → (kn : ℕ) → kn ≡ known_pair (k - used) → (v : Option Valued) → v ≡ made_at used kn q → value_left v u ≡ made_of code f base used i past h
     unfolding made_of
     pair_made_lem k e q u tail kn known v done =
-        let a : wrote (past - i) i used h ≡ fill_answer q u = whole_is ∙ ap (λ (x : Filled). onward_fill (λ m u. wrote (past - j) j m u) x g) e ∙ inv tail in
-        rw (lt-leb (past - i) 2 cons, a, head_is, e, ← known) (ap (λ (x : Valued). value_left x u) done)
+        let a : wrote (past - i) i used h ≡ fill_answer q u = whole_is ∙ ap (λ (x : Option ℕ). onward_fill (λ m u. wrote (past - j) j m u) x g) e ∙ inv tail in
+        rw (lt-leb (past - i) 2 cons, a, head_is, e, ← known) (ap (λ (x : Option Valued). value_left x u) done)
 
-    pub pair_over : r ≡ FilledOver → value_left Over g ≡ made_of code f base used i past h
+    pub pair_over : r ≡ None → value_left None g ≡ made_of code f base used i past h
     unfolding made_of
     pair_over e =
-        let a : wrote (past - i) i used h ≡ fill_answer FilledOver g = whole_is ∙ ap (λ (x : Filled). onward_fill (λ m u. wrote (past - j) j m u) x g) e in
+        let a : wrote (past - i) i used h ≡ fill_answer None g = whole_is ∙ ap (λ (x : Option ℕ). onward_fill (λ m u. wrote (past - j) j m u) x g) e in
         rw (lt-leb (past - i) 2 cons, a)
 
   -- a single token
-  pub one_token : (i k : ℕ) (h : List ℕ) (m : ℕ) (g : List ℕ) → token_written code f base i k h ≡ fill_answer (Done m) g → wrote 1 i k h ≡ fill_answer (Done m) g
+  pub one_token : (i k : ℕ) (h : List ℕ) (m : ℕ) (g : List ℕ) → token_written code f base i k h ≡ fill_answer (Some m) g → wrote 1 i k h ≡ fill_answer (Some m) g
   unfolding tokens_written
   one_token i k h m g e = rw e
 
   -- behind a part that is written, the next
-  pub then : (a b i k : ℕ) (h : List ℕ) (m : ℕ) (g : List ℕ) → wrote a i k h ≡ fill_answer (Done m) g → wrote (a + b) i k h ≡ wrote b (i + a) m g
+  pub then : (a b i k : ℕ) (h : List ℕ) (m : ℕ) (g : List ℕ) → wrote a i k h ≡ fill_answer (Some m) g → wrote (a + b) i k h ≡ wrote b (i + a) m g
   then a b i k h m g e = two_parts a b i k h ∙ rw e
 
-  pub nothing_token : (i k : ℕ) (h : List ℕ) (p : ℕ) → link_at code i ≡ link 0 0 0 p → wrote 1 i k h ≡ fill_answer (Done k) h
+  pub nothing_token : (i k : ℕ) (h : List ℕ) (p : ℕ) → link_at code i ≡ link 0 0 0 p → wrote 1 i k h ≡ fill_answer (Some k) h
   unfolding token_written
   nothing_token i k h p e = one_token i k h k h (token e)
     where
-      token : link_at code i ≡ link 0 0 0 p → token_written code f base i k h ≡ fill_answer (Done k) h
+      token : link_at code i ≡ link 0 0 0 p → token_written code f base i k h ≡ fill_answer (Some k) h
       token e = rw e
 
-  pub cell_token : (i k : ℕ) (h : List ℕ) (c p : ℕ) → link_at code i ≡ link 1 c 0 p → k + 1 ≤ 65535 → wrote 1 i k h ≡ fill_answer (Done (k + 1)) (sets h k (c ∷ []))
+  pub cell_token : (i k : ℕ) (h : List ℕ) (c p : ℕ) → link_at code i ≡ link 1 c 0 p → k + 1 ≤ 65535 → wrote 1 i k h ≡ fill_answer (Some (k + 1)) (sets h k (c ∷ []))
   unfolding token_written
   cell_token i k h c p e l = one_token i k h (k + 1) (sets h k (c ∷ [])) (token e)
     where
-      token : link_at code i ≡ link 1 c 0 p → token_written code f base i k h ≡ fill_answer (Done (k + 1)) (sets h k (c ∷ []))
+      token : link_at code i ≡ link 1 c 0 p → token_written code f base i k h ≡ fill_answer (Some (k + 1)) (sets h k (c ∷ []))
       token e = rw e (written_done k 1 (c ∷ []) h l)
 
   -- a name whose entry holds a tree
   name_token : {used : ℕ} (i k : ℕ) (h : List ℕ) (q p : ℕ) (v : Exp) → link_at code i ≡ link 2 q 0 p → base + q < 4120 → Holds h used (entry_from f (base + q)) (entry_to f (base + q)) v → used ≤ k → k + nodes v ≤ 65535 →
-      wrote 1 i k h ≡ fill_answer (Done (k + nodes v)) (sets h k (cells v))
+      wrote 1 i k h ≡ fill_answer (Some (k + nodes v)) (sets h k (cells v))
   unfolding token_written entry_at
   name_token {used} i k h q p v e l x u m = one_token i k h (k + nodes v) (sets h k (cells v)) (token e)
     where
-      token : link_at code i ≡ link 2 q 0 p → token_written code f base i k h ≡ fill_answer (Done (k + nodes v)) (sets h k (cells v))
+      token : link_at code i ≡ link 2 q 0 p → token_written code f base i k h ≡ fill_answer (Some (k + nodes v)) (sets h k (cells v))
       token e =
           let b = x.below in
           let z : min base 4120 + q ≡ base + q = omega arith in
@@ -177,7 +175,7 @@ module _ (code f : List ℕ) (base : ℕ) where
 
     -- the cells of the value, behind what is used
     abbrev pub Written : ℕ → ℕ → Exp → ℕ → List ℕ → Type 0
-    Written i j t k g = wrote (j - i) i k g ≡ fill_answer (Done (k + nodes t)) (sets g k (cells t))
+    Written i j t k g = wrote (j - i) i k g ≡ fill_answer (Some (k + nodes t)) (sets g k (cells t))
 
     written_name : (i q p : ℕ) (v t : Exp) → link_at code i ≡ link 2 q 0 p → q < length vs → v ≡ get_or vs q (atm (sym 0)) → t ≡ v → (k : ℕ) (g : List ℕ) → used ≤ k → Below used g h → k + nodes t ≤ 65535 → Written i (i + 1) t k g
     written_name i q p v t e l is same k g u b m =
@@ -217,7 +215,7 @@ module _ (code f : List ℕ) (base : ℕ) where
         let s5 = nothing_token kk (k + 1 + nodes tc + nodes td) g3 (kk + 1) e in
         let all = ap (λ (n : ℕ). wrote n i k g) n0 ∙ s1 ∙ s2 ∙ ap (λ (a : ℕ). wrote ((j - (i + 2)) + ((kk - j) + 1)) a (k + 1) g1) i1 ∙ s3 ∙ ap (λ (a : ℕ). wrote ((kk - j) + 1) a (k + 1 + nodes tc) g2) i2 ∙ s4 ∙
         ap (λ (a : ℕ). wrote 1 a (k + 1 + nodes tc + nodes td) g3) i3 ∙ s5 in
-        all ∙ ap₂ (λ (a : ℕ) (v : List ℕ). fill_answer (Done a) v) (omega arith) (joined g k tc td)
+        all ∙ ap₂ (λ (a : ℕ) (v : List ℕ). fill_answer (Some a) v) (omega arith) (joined g k tc td)
       where
         joined : (g : List ℕ) (k : ℕ) (tc td : Exp) → sets (sets (sets g k (4 ∷ [])) (k + 1) (cells tc)) (k + 1 + nodes tc) (cells td) ≡ sets g k (4 ∷ (cells tc ++ cells td))
         joined g k tc td =
@@ -232,7 +230,7 @@ module _ (code f : List ℕ) (base : ℕ) where
       pub to : ℕ
       pub now : ℕ
       pub known : ℕ
-      pub done : w.answer ≡ At from to now known
+      pub done : w.answer ≡ Some (valued from to now known)
       pub holds : Holds w.heap now from to t
       pub knows : KnownOf known t
       pub same : Below used w.heap h
@@ -263,7 +261,7 @@ module _ (code f : List ℕ) (base : ℕ) where
 
     -- else what was written behind what was used
     valued_cells : (i j : ℕ) (m a k : ℕ) (t : Exp) → length h ≡ 65535 → link_at code i ≡ link m a 0 j → eqb m 2 ≡ false → ltb (constant_at code i).from (constant_at code i).to ≡ false → used + nodes t ≤ 65535 →
-        made_of code f base used i j h ≡ value_left (At used (used + nodes t) (used + nodes t) k) (sets h used (cells t)) → KnownOf k t → ValuedAs t (value_at code f base used i h)
+        made_of code f base used i j h ≡ value_left (Some (valued used (used + nodes t) (used + nodes t) k)) (sets h used (cells t)) → KnownOf k t → ValuedAs t (value_at code f base used i h)
     unfolding value_at
     valued_cells i j m a k t z e n o l w kn =
         let d : used + nodes t - used ≡ length (cells t) = omega (arith, cells_nodes t) in
@@ -283,18 +281,18 @@ module _ (code f : List ℕ) (base : ℕ) where
         })
 
     -- a symbol, and a pair by what is written when its head is
-    made_small : (i j : ℕ) (t : Exp) → j - i ≤ 2 → Written i j t used h → made_of code f base used i j h ≡ value_left (At used (used + nodes t) (used + nodes t) 0) (sets h used (cells t))
+    made_small : (i j : ℕ) (t : Exp) → j - i ≤ 2 → Written i j t used h → made_of code f base used i j h ≡ value_left (Some (valued used (used + nodes t) (used + nodes t) 0)) (sets h used (cells t))
     unfolding made_of
     made_small i j t l w = rw (le-leb (j - i) 2 l, w)
 
-    made_large : (i j n : ℕ) (t : Exp) → 2 < j - i → (wrote (head_end_at code i j - i) i used h).answer ≡ Done (used + n) → Written i j t used h →
-        made_of code f base used i j h ≡ value_left (At used (used + nodes t) (used + nodes t) (known_pair n)) (sets h used (cells t))
+    made_large : (i j n : ℕ) (t : Exp) → 2 < j - i → (wrote (head_end_at code i j - i) i used h).answer ≡ Some (used + n) → Written i j t used h →
+        made_of code f base used i j h ≡ value_left (Some (valued used (used + nodes t) (used + nodes t) (known_pair n))) (sets h used (cells t))
     unfolding made_of
     made_large i j n t l e w = let z : used + n - used ≡ n = omega arith in rw (lt-leb (j - i) 2 l, w, e, z)
 
     -- the head of a pair, behind the pair's own cell
     head_written : (i j kk : ℕ) {c d : Exp} → link_at code i ≡ link 0 0 0 (kk + 1) → link_at code (i + 1) ≡ link 1 4 0 (i + 2) → ExpLinked code sc (i + 2) c j → ExpLinked code sc j d kk → Known sc c → length h ≡ 65535 →
-        used + 1 + nodes (apply σ c) ≤ 65535 → (wrote (head_end_at code i (kk + 1) - i) i used h).answer ≡ Done (used + (1 + nodes (apply σ c)))
+        used + 1 + nodes (apply σ c) ≤ 65535 → (wrote (head_end_at code i (kk + 1) - i) i used h).answer ≡ Some (used + (1 + nodes (apply σ c)))
     head_written i j kk {c} {d} o w lc ld kn z m =
         let x1 = exp_goes_on code sc lc in let x2 = exp_goes_on code sc ld in
         let tc = apply σ c in
@@ -305,7 +303,7 @@ module _ (code f : List ℕ) (base : ℕ) where
         let rc = tokens_mean lc kn (used + 1) g1 (omega arith) (below_sets used (4 ∷ []) below_self (omega arith)) (length-sets h used (4 ∷ []) ∙ z) (omega arith) in
         let s1 = then 1 (1 + (j - (i + 2))) i used h used h (nothing_token i used h (kk + 1) o) in
         let s2 = then 1 (j - (i + 2)) (i + 1) used h (used + 1) g1 (cell_token (i + 1) used h 4 (i + 2) w (omega arith)) in
-        ap (λ (v : FillAnswer). v.answer) (ap (λ (n : ℕ). wrote n i used h) n0 ∙ s1 ∙ s2 ∙ ap (λ (a : ℕ). wrote (j - (i + 2)) a (used + 1) g1) i1 ∙ rc) ∙ ap Done (omega arith)
+        ap (λ (v : FillAnswer). v.answer) (ap (λ (n : ℕ). wrote n i used h) n0 ∙ s1 ∙ s2 ∙ ap (λ (a : ℕ). wrote (j - (i + 2)) a (used + 1) g1) i1 ∙ rc) ∙ ap Some (omega arith)
 
     known_pair_lem : (c d : Exp) → KnownOf (known_pair (1 + nodes c)) (pair c d)
     known_pair_lem c d = pick (ltb (1 + nodes c) 32768)

@@ -2,18 +2,17 @@
 ghost use Rattle.std.specs.Prelude.{◌≡◌};
 ghost use Rattle.values.specs.Twins.Names.{names_from, names_in};
 
-use cells::cell;
 use heap::configuration::Configuration;
 
 pub fn names_from(c: Configuration) -> usize
     ensures { result ≡ names_from c }
 {
-    cell::least(c.inputs, 4120) + cell::least(c.outputs, 4120)
+    c.inputs.min(4120) + c.outputs.min(4120)
 }
 
 // How many names are in reach: those that a `cons?` binds come behind them.
 pub fn names_in(c: Configuration) -> usize
     ensures { result ≡ names_in c }
 {
-    cell::less(c.entries, names_from(c))
+    c.entries.saturating_sub(names_from(c))
 }

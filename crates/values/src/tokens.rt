@@ -4,13 +4,11 @@ ghost use Rattle.sets.specs.Twins.Fill.{fill_answer};
 ghost use Rattle.runs.specs.Twins.Runs.{written};
 ghost use Rattle.values.specs.Twins.Values.{entry_at, place_at, token_written, tokens_written};
 
-use cells::cell;
 use linking::code::{CELL, NAME, link_at};
 use runs::run;
-use sets::fill::Filled;
 
 // Where an entry's value stands, and what is known of it.
-#[derive(Drop)]
+#[derive(Clone, Copy)]
 pub struct Place {
     pub from: usize,
     pub to: usize,
@@ -22,13 +20,10 @@ pub fn entry_at(frame: &[u16; 12360], i: usize) -> Place
     ensures { result ≡ entry_at frame.now i }
 {
     if i < 4120 {
-        let from = frame[3 * i + 1];
-        let to = frame[3 * i + 2];
-        let known = frame[3 * i];
         return Place {
-            from: cell::wide(from),
-            to: cell::wide(to),
-            known: known,
+            from: usize::from(frame[3 * i + 1]),
+            to: usize::from(frame[3 * i + 2]),
+            known: frame[3 * i],
         };
     }
     Place {
@@ -42,17 +37,17 @@ pub fn entry_at(frame: &[u16; 12360], i: usize) -> Place
 pub fn place_at(base: usize, place: u16) -> usize
     ensures { result ≡ place_at base place }
 {
-    cell::least(base, 4120) + cell::wide(place)
+    base.min(4120) + usize::from(place)
 }
 
-fn push_cell(heap: &mut [u16; 65535], c: u16, k: usize) -> Filled
+fn push_cell(heap: &mut [u16; 65535], c: u16, k: usize) -> Option<usize>
     ensures { fill_answer result heap.new ≡ written k 1 (c ∷ []) heap.old }
 {
     if 65534 < k {
-        return Filled::Over;
+        return None;
     }
     heap[k] = c;
-    Filled::Done(k + 1)
+    Some(k + 1)
 }
 
 // The cells of the token j, at k: a symbol's or a pair's own, a name's value.
@@ -63,23 +58,21 @@ fn push_token(
     base: usize,
     k: usize,
     j: usize,
-) -> Filled
+) -> Option<usize>
     ensures { fill_answer result heap.new ≡ token_written code.now frame.now base j k heap.old }
 {
     let l = link_at(code, j);
-    let mark = l.mark;
-    let first = l.first;
-    if mark == CELL {
-        return push_cell(heap, first, k);
+    match l.mark {
+        CELL => push_cell(heap, l.first, k),
+        NAME => {
+            let e = entry_at(frame, place_at(base, l.first));
+            run::append(heap, e.from, e.to, k)
+        }
+        _ => Some(k),
     }
-    if mark == NAME {
-        let e = entry_at(frame, place_at(base, first));
-        return run::append(heap, e.from, e.to, k);
-    }
-    Filled::Done(k)
 }
 
-// Those of the tokens from i up to `to`, at `used`. Done: what is used then.
+// Those of the tokens from i up to `to`, at `used`: what is used then, and None where the heap has no room.
 pub(crate) fn push_tokens(
     code: &[u16; 24582],
     heap: &mut [u16; 65535],
@@ -88,22 +81,12 @@ pub(crate) fn push_tokens(
     used: usize,
     i: usize,
     to: usize,
-) -> Filled
+) -> Option<usize>
     ensures { fill_answer result heap.new ≡ tokens_written code.now frame.now base (to - i) i used heap.old }
 {
     let mut k = used;
-    let mut j = i;
-    while j < to {
-        let w = push_token(code, heap, frame, base, k, j);
-        match w {
-            Filled::Done(m) => {
-                k = m;
-                j += 1;
-            }
-            Filled::Over => {
-                return Filled::Over;
-            }
-        }
+    for j in i..to {
+        k = push_token(code, heap, frame, base, k, j)?;
     }
-    Filled::Done(k)
+    Some(k)
 }

@@ -4,4 +4,3 @@
 
 pub mod found;
 pub mod names;
-pub mod truth;

@@ -12,6 +12,7 @@ use borrow.Author.Tests.{eq-eqb, ne_eqb, le-ltb, ltb-true, ltb-false}
 use Rattle.language.specs.Program.{Prog}
 use Rattle.syntax.specs.declared.numerals.Numerals.{Numerals}
 use Rattle.semantics.specs.Configuration.{nodes_state, Configuration}
+use Rattle.std.specs.Prelude.{Result, Ok, Err}
 use Rattle.semantics.specs.Trace.{called, successors}
 use Rattle.semantics.specs.Tree.{Node, root, after_call}
 use Rattle.semantics.specs.Walk.{state_over, Limits, Stop, stop21, Walked, state_of, lines_of, count_of, at_start, taken, mark_cut}
@@ -20,8 +21,8 @@ use Rattle.semantics.proofs.Soundness.{Small, Sound}
 use Rattle.semantics.proofs.Tracing.{Scoped}
 use Rattle.semantics.proofs.Reaching.{Reaches, here, reaches_call}
 use Rattle.heap.specs.declared.configuration.Configuration.{Configuration as InCells}
-use Rattle.heap.specs.declared.configuration.Moved.{Moved}
-use Rattle.heap.specs.declared.configuration.Moved.TheVariants.{On as MovedOn, Contradiction, Over as MovedOver}
+use Rattle.restrictions.specs.declared.failure.Failure.{Failure}
+use Rattle.restrictions.specs.declared.failure.Failure.TheVariants.{Contradiction, Over as MovedOver}
 use Rattle.heap.proofs.FrameLaws.{held_kept}
 use Rattle.heap.proofs.NodeLaws.{held_few}
 use Rattle.linking.specs.Twins.Code.{link_at}
@@ -39,7 +40,6 @@ use Rattle.values.proofs.PairLaws.{state_nodes, entries_few}
 use Rattle.values.proofs.ContractionLaws.{pair_on, pair_over}
 use Rattle.tracing.proofs.ShowLaws.{Accepted}
 use Rattle.initial.specs.Twins.Beginning.{BegunLeft, begun_left}
-use Rattle.initial.specs.declared.begin.Begun.TheVariants.{On}
 use Rattle.initial.proofs.BeginLaws.{in_main, Begins}
 use Rattle.lines.specs.LineCells.{answer_room}
 use Rattle.lines.proofs.LineLaws.{LinesHeld}
@@ -74,16 +74,16 @@ found_leaves w v z f i e c n l = record {
 }
 
 -- the test of a size, by what a transition answers
-abbrev overs : Moved → Bool
-overs (MovedOn c) = false
-overs Contradiction = false
-overs MovedOver = true
+abbrev overs : Result InCells Failure → Bool
+overs (Ok c) = false
+overs (Err Contradiction) = false
+overs (Err MovedOver) = true
 
 size_test_lem : (c : InCells) (f : List ℕ) → ltb 4096 (kept_nodes c.entries c.neqs f) ≡ overs (sized_as c f)
 unfolding sized_as
 size_test_lem c f = pick (ltb 4096 (kept_nodes c.entries c.neqs f))
   where
-    pick : (t : Bool) → t ≡ overs (cond t MovedOver (MovedOn c))
+    pick : (t : Bool) → t ≡ overs (cond t (Err MovedOver) (Ok c))
     pick true = refl
     pick false = refl
 
@@ -316,5 +316,5 @@ module _ (p : Prog) (bodies : ℕ → ℕ) (code : List ℕ) (count : ℕ) (ok :
   -- THE LAW of the walk of a job
   pub begun_means : Leaves (walked_of (walk_back_from p lim N (some K₀))) (on_begun code count k a w w.answer)
   begun_means =
-      rw b.on (laid_means p bodies laid.code accepted K₀ main (begun_left (On (with_used b.at laid.used)) laid.heap w.frame w.q) (with_used b.at laid.used) stands_laid
+      rw b.on (laid_means p bodies laid.code accepted K₀ main (begun_left (Ok (with_used b.at laid.used)) laid.heap w.frame w.q) (with_used b.at laid.used) stands_laid
       (constants_held count b.at.used code w.heap wide b.stands.holds.heap_size empty) (omega (arith, kept.most, b.few)) lim few-lines few-steps N most k of_steps of-walk of-table place sound-all a lines long)

@@ -10,6 +10,7 @@ use native.Mathlib.Omega.{arith}
 use lib.Dec.{eqb}
 use lib.ListN.{length, set, length-set}
 use borrow.Author.Tests.{le-leb, lt-leb}
+use Rattle.std.specs.Prelude.{Ok, Err}
 use Rattle.expressions.specs.Expression.{Exp}
 use Rattle.expressions.specs.Class.{nodes_class}
 use Rattle.expressions.specs.Substitution.{apply}
@@ -49,9 +50,8 @@ use Rattle.trails.proofs.TrailLaws.{PathHeld, path_pushed}
 use Rattle.trails.proofs.ReachLaws.{Decides}
 use Rattle.lines.specs.LineCells.{answer_room}
 use Rattle.lines.specs.declared.line.Lines.{Lines}
-use Rattle.lines.specs.Twins.Ends.{EndLeft, met_end}
-use Rattle.lines.specs.declared.end.Ended.{Ended}
-use Rattle.lines.specs.declared.end.Ended.TheVariants.{Going, Over as EndedOver, Full as EndedFull}
+use Rattle.lines.specs.Twins.Ends.{Ended, EndLeft, met_end}
+use Rattle.lines.specs.declared.end.Unstored.TheVariants.{Over as EndedOver, Full as EndedFull}
 use Rattle.lines.proofs.LineLaws.{LinesHeld}
 use Rattle.lines.proofs.EndLaws.{EndMeans, EndKept, end_means, end_kept}
 use Rattle.positions.specs.Twins.Positions.{at_depth}
@@ -61,7 +61,7 @@ use Rattle.positions.specs.declared.position.Bounds.{Bounds}
 use Rattle.replay.proofs.RecordLaws.{Entered, Rooted}
 use Rattle.replay.proofs.RoomLaws.{Kept, At, room_made_lem}
 use Rattle.replay.proofs.ReplayLaws.{Holds, at_constants, Showing, showing, kept_later, choice_kept, Waiting}
-use Rattle.turns.specs.Twins.Finding.{with_lines, cut_off}
+use Rattle.turns.specs.Twins.Finding.{walked, with_lines, cut_off}
 use Rattle.turns.specs.Twins.Choices.{is_result, is_deep, is_spent}
 use Rattle.turns.specs.Twins.States.{state_at}
 use Rattle.turns.specs.Twins.States as states
@@ -70,7 +70,6 @@ use Rattle.turns.specs.declared.found.Found.{Found}
 use Rattle.turns.specs.declared.found.Ending.{Ending}
 use Rattle.turns.specs.declared.found.Ending.TheVariants.{Over, Full, Spent}
 use Rattle.turns.specs.declared.state.State.{State}
-use Rattle.turns.specs.declared.state.Turn.TheVariants.{Stop as TurnStop}
 use Rattle.walk.specs.Twins.Leaves.{behind_end, leaf_met}
 use Rattle.walk.specs.Twins.Making.{sized_left, called_left, behind_call, made_call, choice_recorded, branch_left, behind_move, branch_taken, made_choice}
 use Rattle.walk.specs.Twins.Backing.{went_back, TurnLeft, beside_answer, after_leaf, turned_back}
@@ -83,11 +82,11 @@ ending_of stop23 = Spent
 
 -- an end that a line or none comes of is not over
 abbrev overs : Ended → Bool
-overs (Going l) = false
-overs EndedOver = true
-overs EndedFull = false
+overs (Ok l) = false
+overs (Err EndedOver) = true
+overs (Err EndedFull) = false
 
-not_over : (l : Lines) → Going l ≡ EndedOver → ⊥
+not_over : (l : Lines) → ◌≡◌ {A = Ended} (Ok l) (Err EndedOver) → ⊥
 not_over l e = false≢true (ap overs e)
 
 abbrev both_of : Bool → Bool → Branches
@@ -226,7 +225,7 @@ module _ (p : Prog) (bodies : ℕ → ℕ) (code : List ℕ) (ok : Accepted p bo
   abbrev pub NodeMeans : Turn → TurnLeft → Type 0
   NodeMeans (ahead i s) w = Takes i s w
   NodeMeans (exhausted s) w = Returns s w
-  NodeMeans (halted z s) w = (g : Found) × (w.turn ≡ TurnStop (ending_of z) g) × SameFound s w.answer g
+  NodeMeans (halted z s) w = (g : Found) × (w.turn ≡ Err (walked (ending_of z) g)) × SameFound s w.answer g
 
   extend_end : (m : ℕ) (y : Node) (u : Exp) (s : PathState) → extend lim m y (terminal u) s ≡ after_end s.path (at_end lim y.steps (with_todo [] s) (intersect meeting_over (meeting_at y u)))
   extend_end zero y u s = refl
@@ -300,7 +299,7 @@ module _ (p : Prog) (bodies : ℕ → ℕ) (code : List ℕ) (ok : Accepted p bo
     cut_is e d = leaf_is (deep_way e d) ∙ cut_turns e
 
     -- an end that the walk goes on from
-    ended_on : (r : WalkState) → r.count ≡ s.count → r.cut ≡ s.cut → (g : EndLeft) → EndMeans a (going r) g.ended g.answer → (g.ended ≡ EndedOver) ⊎ EndKept st.at.node.at.used roomed.heap g →
+    ended_on : (r : WalkState) → r.count ≡ s.count → r.cut ≡ s.cut → (g : EndLeft) → EndMeans a (going r) g.ended g.answer → (g.ended ≡ Err EndedOver) ⊎ EndKept st.at.node.at.used roomed.heap g →
         NodeMeans (exhausted (on_path s.path r)) (behind g)
     ended_on r n c g e (inl o) = absurd (not_over e.0 (inv e.1 ∙ o))
     ended_on r n c g e (inr k) = record {
@@ -325,13 +324,13 @@ module _ (p : Prog) (bodies : ℕ → ℕ) (code : List ℕ) (ok : Accepted p bo
     found_here : SameFound (on_path s.path (with_todo [] s)) a st.found
     found_here = record { lines = w.found.lines; long = w.found.long; counts = w.found.counts; cuts = w.found.cuts }
 
-    ended_over : (g : EndLeft) → g.ended ≡ EndedOver → g.answer ≡ a → NodeMeans (halted stop21 (on_path s.path (with_todo [] s))) (behind g)
+    ended_over : (g : EndLeft) → g.ended ≡ Err EndedOver → g.answer ≡ a → NodeMeans (halted stop21 (on_path s.path (with_todo [] s))) (behind g)
     ended_over g e t = rw (e, t) (st.found, refl, found_here)
 
-    ended_full : (g : EndLeft) → g.ended ≡ EndedFull → g.answer ≡ a → NodeMeans (halted stop22 (on_path s.path (with_todo [] s))) (behind g)
+    ended_full : (g : EndLeft) → g.ended ≡ Err EndedFull → g.answer ≡ a → NodeMeans (halted stop22 (on_path s.path (with_todo [] s))) (behind g)
     ended_full g e t = rw (e, t) (st.found, refl, found_here)
 
-    ended_means : (k : ℕ) (I : Intersected) (g : EndLeft) → EndMeans a (at_end lim k (with_todo [] s) I) g.ended g.answer → (g.ended ≡ EndedOver) ⊎ EndKept st.at.node.at.used roomed.heap g →
+    ended_means : (k : ℕ) (I : Intersected) (g : EndLeft) → EndMeans a (at_end lim k (with_todo [] s) I) g.ended g.answer → (g.ended ≡ Err EndedOver) ⊎ EndKept st.at.node.at.used roomed.heap g →
         NodeMeans (after_end s.path (at_end lim k (with_todo [] s) I)) (behind g)
     ended_means k disjoint g e t = ended_on (with_todo [] s) refl refl g e t
     ended_means k too_large g e t = ended_over g e.0 e.1
@@ -400,8 +399,8 @@ module _ (p : Prog) (bodies : ℕ → ℕ) (code : List ℕ) (ok : Accepted p bo
           let c = st.at.node.at in
           rw (turn_is, e, not_deep, call_asked code c roomed.heap roomed.frame e) (pick (is_spent bounds.walk st.found) (called_to code (names_from c) c roomed.heap roomed.frame))
         where
-          pick : (t : Bool) (w : Move) → beside_call q path saved a (cond t (called_left (TurnStop Spent st.found) roomed.heap roomed.frame) (behind_call st w)) ≡
-              beside_answer a (cond t (branch_left (TurnStop Spent st.found) roomed.heap roomed.frame q path saved) (behind_move st path saved (sized_left (beside q w))))
+          pick : (t : Bool) (w : Move) → beside_call q path saved a (cond t (called_left (Err (walked Spent st.found)) roomed.heap roomed.frame) (behind_call st w)) ≡
+              beside_answer a (cond t (branch_left (Err (walked Spent st.found)) roomed.heap roomed.frame q path saved) (behind_move st path saved (sized_left (beside q w))))
           pick true w = refl
           pick false w = refl
 

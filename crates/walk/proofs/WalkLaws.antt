@@ -9,6 +9,7 @@ use native.Mathlib.Omega.{arith}
 use lib.Dec.{eqb}
 use lib.ListN.{length, set, length-set}
 use borrow.Author.Tests.{le-leb, lt-leb, eq-eqb, ne_eqb, ltb-true, ltb-false}
+use Rattle.std.specs.Prelude.{Ok, Err}
 use Rattle.expressions.specs.Intersection.{Intersected, common, disjoint, too_large, intersect}
 use Rattle.language.specs.Program.{Prog}
 use Rattle.semantics.specs.Configuration.{nodes_state, Configuration}
@@ -21,7 +22,7 @@ use Rattle.semantics.proofs.Soundness.{Small, Sound}
 use Rattle.semantics.proofs.Tracing.{Scoped}
 use Rattle.semantics.proofs.Reaching.{Reaches, reaches_decision, reaches_steps, reaches_replay}
 use Rattle.heap.specs.Twins.Moving.{Left}
-use Rattle.heap.specs.declared.configuration.Moved.TheVariants.{Over as MovedOver}
+use Rattle.restrictions.specs.declared.failure.Failure.TheVariants.{Over as MovedOver}
 use Rattle.heap.proofs.NodeLaws.{held_few}
 use Rattle.saving.specs.Twins.Records.{Record, record_cells}
 use Rattle.values.proofs.StateLaws.{Arrives}
@@ -45,7 +46,6 @@ use Rattle.turns.specs.declared.found.Found.{Found}
 use Rattle.turns.specs.declared.found.Ending.{Ending}
 use Rattle.turns.specs.declared.found.Ending.TheVariants.{Done, Over, Spent}
 use Rattle.turns.specs.declared.state.State.{State}
-use Rattle.turns.specs.declared.state.Turn.TheVariants.{On as TurnOn, Stop as TurnStop}
 use Rattle.walk.proofs.TurnLaws.{ending_of, SameFound, Undone, reaches_small, Walking, Ready, Exhausted, Takes, NodeMeans, node_means}
 
 -- a path that goes back has its storage
@@ -88,8 +88,8 @@ module _ (p : Prog) (bodies : ℕ → ℕ) (code : List ℕ) (ok : Accepted p bo
 
   abbrev NextMeans : Turn → TurnLeft → Type 0
   NextMeans (ahead i s) w = Taking i s w
-  NextMeans (exhausted s) w = (g : Found) × (w.turn ≡ TurnStop Done g) × SameFound s w.answer g
-  NextMeans (halted z s) w = (g : Found) × (w.turn ≡ TurnStop (ending_of z) g) × SameFound s w.answer g
+  NextMeans (exhausted s) w = (g : Found) × (w.turn ≡ Err (walked Done g)) × SameFound s w.answer g
+  NextMeans (halted z s) w = (g : Found) × (w.turn ≡ Err (walked (ending_of z) g)) × SameFound s w.answer g
 
   undone_latest : (cs : List Choice) → Left-undone cs → (b : Choice) (ds : List Choice) → backtrack cs ≡ b ∷ ds → Waits ds × Left-undone ds
   undone_latest [] u b ds e = let z : ◌≡◌ {A = ℕ} 0 1 = cc in absurd (omega arith)
@@ -313,16 +313,16 @@ module _ (p : Prog) (bodies : ℕ → ℕ) (code : List ℕ) (ok : Accepted p bo
         few : to.at.entries ≤ 4120
         few = let v = to.stands.holds in omega (arith, v.entries, held_few v.held v.frame_size (omega arith))
 
-        moves_on : after_move st (sized_move step.answer step.frame) ≡ TurnOn state_next
+        moves_on : after_move st (sized_move step.answer step.frame) ≡ Ok state_next
         moves_on = rw (to.moved, pair_on to.stands.holds few size)
 
       -- "21 over 4,096 nodes: .. after a transition"
-      over_move : 4096 < nodes_state i.node.conf.cr → ((step.answer ≡ MovedOver) × (4097 < nodes_state i.node.conf.cr)) ⊎ Arrives p bodies code r.before st.at.node.at.used i.node.conf step →
-          after_move st (sized_move step.answer step.frame) ≡ TurnStop Over (counted st.found)
+      over_move : 4096 < nodes_state i.node.conf.cr → ((step.answer ≡ Err MovedOver) × (4097 < nodes_state i.node.conf.cr)) ⊎ Arrives p bodies code r.before st.at.node.at.used i.node.conf step →
+          after_move st (sized_move step.answer step.frame) ≡ Err (walked Over (counted st.found))
       over_move l (inl o) = rw o.0
       over_move l (inr to) = let v = to.stands.holds in rw (to.moved, pair_over v (omega (arith, v.entries, held_few v.held v.frame_size (omega arith))) l)
 
-      arrives : nodes_state i.node.conf.cr ≤ 4096 → ((step.answer ≡ MovedOver) × (4097 < nodes_state i.node.conf.cr)) ⊎ Arrives p bodies code r.before st.at.node.at.used i.node.conf step →
+      arrives : nodes_state i.node.conf.cr ≤ 4096 → ((step.answer ≡ Err MovedOver) × (4097 < nodes_state i.node.conf.cr)) ⊎ Arrives p bodies code r.before st.at.node.at.used i.node.conf step →
           Arrives p bodies code r.before st.at.node.at.used i.node.conf step
       arrives l (inl o) = absurd (omega (arith, o.1))
       arrives l (inr to) = to

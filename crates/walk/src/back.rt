@@ -10,8 +10,8 @@ use replay::replay::bring_back;
 use tracing::ask::ask;
 use trails::trail::backtrack;
 use turns::choice::is_spent;
-use turns::found::Ending;
-use turns::state::{Leaving, State, Turn, after_move, state_at};
+use turns::found::{Ending, stopped};
+use turns::state::{State, Turn, after_move, state_at};
 
 // The configuration of that choice brought back, and the transition to its false branch.
 fn go_back(
@@ -31,19 +31,13 @@ fn go_back(
     let n = from.node;
     let d = backtrack(path, n.depth);
     if d == 0 {
-        return Turn::Stop {
-            ending: Ending::Done,
-            found: f,
-        };
+        return Err(stopped(Ending::Done, f));
     }
     let p = bring_back(code, heap, frame, q, path, saved, from.top, d - 1, b);
     let m = p.node;
     let a = ask(code, heap, frame, m.at);
     if is_spent(b.walk, f) {
-        return Turn::Stop {
-            ending: Ending::Spent,
-            found: f,
-        };
+        return Err(stopped(Ending::Spent, f));
     }
     let z = move_on(code, heap, frame, q, m.at, a, false);
     after_move(state_at(at_depth(m, d, p.top), f), z)
@@ -62,9 +56,6 @@ pub(crate) fn turn_back(
 ) -> Turn
     ensures { turn_left result heap.new frame.new q.new path.new saved.new answer.new ≡ turned_back code.now b s heap.old frame.old q.old path.old saved.old answer.old }
 {
-    let l = meet_leaf(code, heap, frame, q, answer, s, b);
-    match l {
-        Leaving::Back(t) => go_back(code, heap, frame, q, path, saved, t, b),
-        Leaving::Stop { ending, found } => Turn::Stop { ending, found },
-    }
+    let t = meet_leaf(code, heap, frame, q, answer, s, b)?;
+    go_back(code, heap, frame, q, path, saved, t, b)
 }

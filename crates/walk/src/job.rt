@@ -5,9 +5,10 @@ ghost use Rattle.walk.specs.Twins.Jobs.{job_left, walk_first, walk_begun, job_la
 use crate::walk::walk_on;
 use constants::lay::lay_constants;
 use heap::configuration::Configuration;
-use initial::begin::{Begun, begin};
+use initial::begin::begin;
 use positions::position::{Bounds, Position};
 use positions::used::with_used;
+use restrictions::failure::Failure;
 use saving::head::Node;
 use saving::saved::save;
 use syntax::job_ends::JobEnds;
@@ -42,7 +43,7 @@ fn walk_first(
         steps: k.steps,
         walk: k.walk,
         table: k.table,
-        base: base,
+        base,
     };
     let s = state_at(Position { node: n, top: base }, found::count(nothing()));
     walk_on(code, heap, frame, q, &mut path, &mut saved, answer, s, b)
@@ -89,11 +90,10 @@ pub fn walk_job(
     let mut heap: [u16; 65535] = [0; 65535];
     let mut frame: [u16; 12360] = [0; 12360];
     let mut q: [u16; 4096] = [0; 4096];
-    let b = begin(
+    match begin(
         body, jmarks, jnums, parts, &mut heap, &mut frame, &mut q, false,
-    );
-    match b {
-        Begun::On(c) => {
+    ) {
+        Ok(c) => {
             let used = lay_constants(code, &mut heap, c.used, count);
             walk_begun(
                 code,
@@ -105,7 +105,7 @@ pub fn walk_job(
                 k,
             )
         }
-        Begun::None => found::stopped(Ending::Done, nothing()),
-        Begun::Over => found::stopped(Ending::Over, nothing()),
+        Err(Failure::Contradiction) => found::stopped(Ending::Done, nothing()),
+        Err(Failure::Over) => found::stopped(Ending::Over, nothing()),
     }
 }

@@ -6,7 +6,7 @@ use lines::end::meet_end;
 use linking::code::link_at;
 use positions::position::Bounds;
 use turns::choice::{is_result, lines_kept};
-use turns::state::{Leaving, State, after_end, cut};
+use turns::state::{State, Turn, after_end, cut};
 
 pub(crate) fn meet_leaf(
     code: &[u16; 24582],
@@ -16,18 +16,15 @@ pub(crate) fn meet_leaf(
     answer: &mut [u16],
     s: State,
     b: Bounds,
-) -> Leaving
+) -> Turn
     ensures { leaf_left result heap.new frame.new q.new answer.new ≡ leaf_met code.now b s heap.old frame.old q.old answer.old }
 {
-    let p = s.at;
-    let f = s.found;
-    let n = p.node;
-    let c = n.at;
-    let l = link_at(code, c.place);
+    let n = s.at.node;
+    let l = link_at(code, n.at.place);
     if is_result(l.mark) {
         let table = lines_kept(b);
-        let e = meet_end(code, heap, frame, q, answer, n, table, f.lines);
+        let e = meet_end(code, heap, frame, q, answer, n, table, s.found.lines);
         return after_end(s, e);
     }
-    cut(s)
+    Ok(cut(s))
 }

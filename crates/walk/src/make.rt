@@ -4,27 +4,27 @@ ghost use Rattle.heap.specs.Twins.Moving.{left as leaves};
 ghost use Rattle.walk.specs.Twins.Making.{sized_move, moved_on, called_left, made_call, choice_left, choice_recorded, branch_left, made_choice};
 
 use calls::call::call;
-use heap::configuration::{Branches, Configuration, Moved};
+use heap::configuration::{Branches, Configuration};
 use positions::position::{Bounds, Position, at_depth};
 use replay::replay::save_if;
+use restrictions::failure::Failure;
 use tracing::ask::{Asked, ask, branches};
 use tracing::take::take;
 use trails::trail::push_choice;
 use turns::choice::{first_branch, is_both, is_spent};
-use turns::found::Ending;
+use turns::found::{Ending, stopped};
 use turns::state::{State, Turn, after_move, state_at};
 use values::names::names_from;
 use values::size::sized;
 
 // "21 over 4,096 nodes: .. after a transition"
-fn sized_move(frame: &[u16; 12360], m: Moved) -> Moved
+fn sized_move(
+    frame: &[u16; 12360],
+    m: Result<Configuration, Failure>,
+) -> Result<Configuration, Failure>
     ensures { result ≡ sized_move m frame.now }
 {
-    match m {
-        Moved::On(c) => sized(frame, c),
-        Moved::Contradiction => Moved::Contradiction,
-        Moved::Over => Moved::Over,
-    }
+    sized(frame, m?)
 }
 
 // The transition by a branch.
@@ -36,7 +36,7 @@ pub(crate) fn move_on(
     c: Configuration,
     a: Asked,
     taken: bool,
-) -> Moved
+) -> Result<Configuration, Failure>
     ensures { leaves result heap.new frame.new q.new ≡ moved_on code.now c a taken heap.old frame.old q.old }
 {
     let m = take(code, heap, frame, q, c, a, taken);
@@ -55,14 +55,10 @@ pub(crate) fn make_call(
 {
     let f = s.found;
     if is_spent(walk, f) {
-        return Turn::Stop {
-            ending: Ending::Spent,
-            found: f,
-        };
+        return Err(stopped(Ending::Spent, f));
     }
-    let p = s.at;
-    let n = p.node;
-    let m = call(code, heap, frame, names_from(n.at), n.at);
+    let c = s.at.node.at;
+    let m = call(code, heap, frame, names_from(c), c);
     let after = sized_move(frame, m);
     after_move(s, after)
 }
@@ -107,10 +103,7 @@ pub(crate) fn make_choice(
     let w = branches(q, c.neqs, a);
     let at = record_choice(frame, q, path, saved, p, w, b.base);
     if is_spent(b.walk, f) {
-        return Turn::Stop {
-            ending: Ending::Spent,
-            found: f,
-        };
+        return Err(stopped(Ending::Spent, f));
     }
     let m = move_on(code, heap, frame, q, c, a, first_branch(w));
     after_move(state_at(at, f), m)

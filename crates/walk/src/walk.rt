@@ -5,22 +5,18 @@ ghost use Rattle.walk.specs.Twins.Walking.{way_at, walk_turn, walked_left, walke
 
 use crate::back::turn_back;
 use crate::make::{make_call, make_choice};
-use cells::cell;
 use linking::code::link_at;
 use positions::position::Bounds;
 use replay::room::have_room;
 use saving::head::Node;
 use turns::choice::{Way, way_on};
-use turns::found;
-use turns::found::{Ending, Walked};
+use turns::found::{Ending, Walked, stopped};
 use turns::state::{State, Turn, state_at};
 
 fn way_at(code: &[u16; 24582], n: Node, b: Bounds) -> Way
     ensures { result ≡ way_at code.now b n }
 {
-    let c = n.at;
-    let l = link_at(code, c.place);
-    way_on(l.mark, b, n)
+    way_on(link_at(code, n.at.place).mark, b, n)
 }
 
 // A call or a condition makes its transition; a leaf has none, and the walk goes on behind it.
@@ -40,8 +36,7 @@ fn walk_turn(
     let f = from.found;
     let p = have_room(heap, frame, saved, from.at, b.base);
     let s = state_at(p, f);
-    let w = way_at(code, p.node, b);
-    match w {
+    match way_at(code, p.node, b) {
         Way::Call => make_call(code, heap, frame, s, b.walk),
         Way::Choice => make_choice(code, heap, frame, q, path, saved, s, b),
         Way::Leaf => turn_back(code, heap, frame, q, path, saved, answer, s, b),
@@ -63,18 +58,11 @@ pub fn walk_on(
     ensures { walked_left result heap.new frame.new q.new path.new saved.new answer.new ≡ walked_on code.now b from heap.old frame.old q.old path.old saved.old answer.old }
 {
     let mut s = from;
-    let mut left = cell::least(b.walk, 1000000) + 1;
-    while 0 < left {
-        let t = walk_turn(code, heap, frame, q, path, saved, answer, s, b);
-        match t {
-            Turn::On(next) => {
-                s = next;
-            }
-            Turn::Stop { ending, found } => {
-                return found::stopped(ending, found);
-            }
+    for _ in 0..b.walk.min(1000000) + 1 {
+        match walk_turn(code, heap, frame, q, path, saved, answer, s, b) {
+            Ok(next) => s = next,
+            Err(walked) => return walked,
         }
-        left -= 1;
     }
-    found::stopped(Ending::Spent, s.found)
+    stopped(Ending::Spent, s.found)
 }

@@ -18,11 +18,14 @@ part_front s n = let m : n - 0 ≡ n = omega arith in ap (λ (k : ℕ). take k s
 pub text_step : (text : List ℕ) (i : ℕ) → i < length text → drop i text ≡ (get_or text i 0 ∷ []) ++ drop (i + 1) text
 text_step text i h = rw (add-one i) (drop-cons text i 0 h)
 
-pub repeat_step : (n b : ℕ) → 0 < n → replicate n b ≡ (b ∷ []) ++ replicate (n - 1) b
-repeat_step n b h = let e : n ≡ suc (n - 1) = omega arith in ap (λ (k : ℕ). replicate k b) e
+pub repeat_start : (n b : ℕ) → replicate n b ≡ replicate (n - 0) b
+repeat_start n b = let e : n ≡ n - 0 = omega arith in ap (λ (k : ℕ). replicate k b) e
 
-pub repeat_end : (n b : ℕ) → n ≤ 0 → replicate n b ≡ []
-repeat_end n b h = let e : n ≡ 0 = omega arith in ap (λ (k : ℕ). replicate k b) e
+pub repeat_step : (n i b : ℕ) → i < n → replicate (n - i) b ≡ (b ∷ []) ++ replicate (n - (i + 1)) b
+repeat_step n i b h = let e : n - i ≡ suc (n - (i + 1)) = omega arith in ap (λ (k : ℕ). replicate k b) e
+
+pub repeat_end : (n i b : ℕ) → n ≤ i → replicate (n - i) b ≡ []
+repeat_end n i b h = let e : n - i ≡ 0 = omega arith in ap (λ (k : ℕ). replicate k b) e
 
 -- going back over one cell
 module _ (s : List ℕ) where

@@ -15,7 +15,7 @@ fn name_at(text: &[u8], i: usize) -> &[u8]
     ensures { result.now ≡ drop 1 (word_at text.now i) }
 {
     let word = table::word_at(text, i);
-    if word.len() < 1 {
+    if word.is_empty() {
         return word;
     }
     &word[1..]
@@ -53,16 +53,16 @@ fn put_symbol(
     let p = put_byte(out, place, b'\'');
     if n < 1024 {
         let k = 2 * (n as usize) + 1;
-        if k < symbols.len() {
-            return put_name(out, p, program, job, symbols[k]);
-        }
-        return p;
+        return match symbols.get(k) {
+            Some(&at) => put_name(out, p, program, job, at),
+            None => p,
+        };
     }
     let k = 1024 + n as usize;
-    if k < symbols.len() {
-        return put_new(out, p, symbols[k]);
+    match symbols.get(k) {
+        Some(&number) => put_new(out, p, number),
+        None => p,
     }
-    p
 }
 
 pub fn put_leaf(
@@ -76,13 +76,15 @@ pub fn put_leaf(
     ensures { sink result out.new ≡ puts (sink place out.old) (leaf_text (symbol_text program.now job.now symbols.now) code) }
 {
     let n = code / 4;
-    if code % 4 == 1 {
-        return put_symbol(out, place, program, job, symbols, n);
+    match code % 4 {
+        1 => put_symbol(out, place, program, job, symbols, n),
+        2 => {
+            let e = put_text(out, place, b"?e");
+            put_digits(out, e, n as usize)
+        }
+        _ => {
+            let a = put_text(out, place, b"?a");
+            put_digits(out, a, n as usize)
+        }
     }
-    if code % 4 == 2 {
-        let e = put_text(out, place, b"?e");
-        return put_digits(out, e, n as usize);
-    }
-    let a = put_text(out, place, b"?a");
-    put_digits(out, a, n as usize)
 }

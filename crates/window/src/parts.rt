@@ -5,16 +5,11 @@ ghost use Rattle.std.specs.Prelude.{◌≡◌, ◌+◌, ◌-◌, min, take, drop
 pub fn part(s: &[u16], from: usize, to: usize) -> &[u16]
     ensures { result.now ≡ take (to - from) (drop from s.now) }
 {
-    if s.len() <= from {
-        return &s[..0];
+    let end = to.min(s.len());
+    if end <= from {
+        return &[];
     }
-    if to <= from {
-        return &s[..0];
-    }
-    if s.len() < to {
-        return &s[from..];
-    }
-    &s[from..to]
+    &s[from..end]
 }
 
 // The first n cells, as far as there are any.
@@ -28,21 +23,12 @@ pub fn front(s: &[u16], n: usize) -> &[u16]
 pub fn rest(s: &[u16], from: usize) -> &[u16]
     ensures { result.now ≡ drop from s.now }
 {
-    if s.len() <= from {
-        return &s[..0];
-    }
-    &s[from..]
+    &s[from.min(s.len())..]
 }
 
 // n further, but not past `end`.
 pub fn ahead(at: usize, n: usize, end: usize) -> usize
     ensures { result ≡ min (at + n) end }
 {
-    if end <= at {
-        return end;
-    }
-    if n < end - at {
-        return at + n;
-    }
-    end
+    at.saturating_add(n).min(end)
 }

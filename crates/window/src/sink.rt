@@ -10,23 +10,17 @@ pub struct Place {
     at: usize,
 }
 
+#[tactic(auto, unfolding(crate::specs::Twins::Sink::puts, crate::specs::Twins::Sink::pushed))]
 pub fn put_byte(out: &mut [u8], place: Place, byte: u8) -> Place
     ensures { sink result out.new ≡ puts (sink place out.old) (byte ∷ []) }
 {
-    let skip = place.skip;
-    let at = place.at;
+    let Place { skip, at } = place;
     if 0 < skip {
-        return Place {
-            skip: skip - 1,
-            at: at,
-        };
+        return Place { skip: skip - 1, at };
     }
     if at < out.len() {
         out[at] = byte;
-        return Place {
-            skip: skip,
-            at: at + 1,
-        };
+        return Place { skip, at: at + 1 };
     }
     place
 }
@@ -35,10 +29,8 @@ pub fn put_text(out: &mut [u8], place: Place, text: &[u8]) -> Place
     ensures { sink result out.new ≡ puts (sink place out.old) text.now }
 {
     let mut p = place;
-    let mut i: usize = 0;
-    while i < text.len() {
-        p = put_byte(out, p, text[i]);
-        i += 1;
+    for &byte in text {
+        p = put_byte(out, p, byte);
     }
     p
 }
@@ -48,10 +40,8 @@ pub fn put_repeat(out: &mut [u8], place: Place, byte: u8, n: usize) -> Place
     ensures { sink result out.new ≡ puts (sink place out.old) (replicate n byte) }
 {
     let mut p = place;
-    let mut left = n;
-    while 0 < left {
+    for _ in 0..n {
         p = put_byte(out, p, byte);
-        left -= 1;
     }
     p
 }
@@ -60,21 +50,15 @@ pub fn put_repeat(out: &mut [u8], place: Place, byte: u8, n: usize) -> Place
 pub fn clear(out: &mut [u8])
     ensures { out.new ≡ replicate (length out.old) 0 }
 {
-    for i in 0..out.len() {
-        out[i] = 0;
-    }
+    out.fill(0);
 }
 
 // Whether all that follows is dropped: a text need not be made further then.
+#[tactic(auto, unfolding(crate::specs::Twins::Sink::full))]
 pub fn is_full(place: Place, size: usize) -> bool
     ensures { result ≡ full place size }
 {
-    let skip = place.skip;
-    let at = place.at;
-    if 0 < skip {
-        return false;
-    }
-    size <= at
+    place.skip == 0 && size <= place.at
 }
 
 // The window from the byte `from` of the text on.

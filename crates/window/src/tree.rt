@@ -13,13 +13,10 @@ use sets::tree;
 fn count_closings(cells: &[u16], to: usize) -> usize
     ensures { result ≡ closings cells.now to 0 }
 {
-    let mut i = to;
     let mut trees: usize = 0;
     let mut n: usize = 0;
-    while 0 < i {
-        i -= 1;
-        let c = cell::cell(cells, i);
-        if c != tree::PAIR {
+    for k in 0..to {
+        if cell::cell(cells, to - (k + 1)) != tree::PAIR {
             trees += 1;
             continue;
         }
@@ -58,16 +55,13 @@ pub fn put_tree(
     ensures { sink result out.new ≡ puts (sink place out.old) (tree_text (symbol_text program.now job.now symbols.now) cells.now) }
 {
     let mut p = place;
-    let mut i: usize = 0;
-    while i < cells.len() {
-        let c = cells[i];
-        i += 1;
+    for (i, &c) in cells.iter().enumerate() {
         if c == tree::PAIR {
             p = put_text(out, p, b"(cons ");
             continue;
         }
         let q = put_leaf(out, p, program, job, symbols, c);
-        p = put_behind(out, q, cells, i);
+        p = put_behind(out, q, cells, i + 1);
     }
     p
 }

@@ -7,7 +7,7 @@ use native.Mathlib.Omega.{arith}
 use native.Mathlib.Numerals.{add-one}
 use native.Mathlib.Nat.{mod-mod, mod-eq_of_lt, mod-add-div, add-mul-mod_self_left}
 use lib.Dec.{eqb, leb}
-use borrow.Author.Tests.{eq-eqb, ne_eqb, le-leb, lt-leb, eqb-false}
+use borrow.Author.Tests.{eq-eqb, ne_eqb, le-leb, lt-leb, eqb-true, eqb-false}
 use lib.ListN.{length, drop, get_or, length-drop, drop_of_length-le}
 use lib.Seq.{drop-cons, get_or-drop}
 use Rattle.language.specs.Bytes.{byte_kind, in_name, is_digit, within}
@@ -141,11 +141,19 @@ module _ (s : Word) (i : ℕ) where
       go (b ∷ c ∷ w) k n e = ap (λ t. t && (same (b ∷ c ∷ w) (48 ∷ []) || not (begins (48 ∷ []) (b ∷ c ∷ w)))) e
           ∙ ap (λ t. t || not (eqb 48 b && true)) (and_false (eqb b 48)) ∙ ap not (and_true (eqb 48 b))
 
-  pub numeral_nought : i < length s → Digits → (length s - i ≡ 1 → ⊥) → get_or s i 0 ≡ 48 → is_numeral (drop i s) ≡ false
+  numeral_nought : i < length s → Digits → (length s - i ≡ 1 → ⊥) → get_or s i 0 ≡ 48 → is_numeral (drop i s) ≡ false
   numeral_nought l h n e = numeral_more l h n ∙ ap not (eq-eqb 48 (get_or s i 0) (sym e))
 
-  pub numeral_sound : i < length s → Digits → (length s - i ≡ 1 → ⊥) → (get_or s i 0 ≡ 48 → ⊥) → is_numeral (drop i s) ≡ true
+  numeral_sound : i < length s → Digits → (length s - i ≡ 1 → ⊥) → (get_or s i 0 ≡ 48 → ⊥) → is_numeral (drop i s) ≡ true
   numeral_sound l h n e = numeral_more l h n ∙ ap not (ne_eqb 48 (get_or s i 0) (λ z. e (sym z)))
+
+  -- "no leading noughts"
+  pub numeral_last : i < length s → Digits → (length s - i ≡ 1 → ⊥) → is_numeral (drop i s) ≡ not (eqb (get_or s i 0) 48)
+  numeral_last l h n = go (eqb (get_or s i 0) 48) refl
+    where
+      go : (t : Bool) → eqb (get_or s i 0) 48 ≡ t → is_numeral (drop i s) ≡ not t
+      go true e = numeral_nought l h n (eqb-true (get_or s i 0) 48 e)
+      go false e = numeral_sound l h n (eqb-false (get_or s i 0) 48 e)
 
 -- values modulo 65,536
 value_mod : (x : ℕ) (w : Word) → value_from (x % 65536) w % 65536 ≡ value_from x w % 65536

@@ -3,10 +3,11 @@ ghost use Rattle.std.specs.Prelude.{◌≡◌, not};
 ghost use Rattle.language.specs.Bytes.{byte_kind, is_blank, is_digit, in_name, in_word, is_outside};
 ghost use Rattle.words.specs.Twins.Cutting.{byte_of, outside_at, bytes_at};
 
-use crate::got::Got;
+use crate::scan::scan;
 use bounds::text::{job_bytes, program_bytes};
+use refusals::refusal::Refusal;
 
-#[derive(Drop)]
+#[derive(Clone, Copy)]
 pub(crate) enum Byte {
     Blank,
     Bracket,
@@ -33,115 +34,72 @@ pub(crate) fn byte_kind(b: u8) -> Byte
 pub(crate) fn is_blank(b: u8) -> bool
     ensures { result ≡ is_blank (byte_kind b) }
 {
-    match byte_kind(b) {
-        Byte::Blank => true,
-        Byte::Bracket => false,
-        Byte::Digit => false,
-        Byte::Letter => false,
-        Byte::Mark => false,
-        Byte::Outside => false,
-    }
+    matches!(byte_kind(b), Byte::Blank)
 }
 
 pub(crate) fn is_digit(b: u8) -> bool
     ensures { result ≡ is_digit (byte_kind b) }
 {
-    match byte_kind(b) {
-        Byte::Digit => true,
-        Byte::Blank => false,
-        Byte::Bracket => false,
-        Byte::Letter => false,
-        Byte::Mark => false,
-        Byte::Outside => false,
-    }
+    matches!(byte_kind(b), Byte::Digit)
 }
 
 // "1 to 16 letters or digits"
 pub(crate) fn in_name(b: u8) -> bool
     ensures { result ≡ in_name (byte_kind b) }
 {
-    match byte_kind(b) {
-        Byte::Digit => true,
-        Byte::Letter => true,
-        Byte::Blank => false,
-        Byte::Bracket => false,
-        Byte::Mark => false,
-        Byte::Outside => false,
-    }
+    matches!(byte_kind(b), Byte::Digit | Byte::Letter)
 }
 
 // A byte of a token that is no bracket.
 pub(crate) fn in_word(b: u8) -> bool
     ensures { result ≡ in_word (byte_kind b) }
 {
-    match byte_kind(b) {
-        Byte::Blank => false,
-        Byte::Bracket => false,
-        Byte::Digit => true,
-        Byte::Letter => true,
-        Byte::Mark => true,
-        Byte::Outside => true,
-    }
+    !matches!(byte_kind(b), Byte::Blank | Byte::Bracket)
 }
 
 // A byte of the set.
 fn in_set(b: u8) -> bool
     ensures { result ≡ not (is_outside (byte_kind b)) }
 {
-    match byte_kind(b) {
-        Byte::Outside => false,
-        Byte::Blank => true,
-        Byte::Bracket => true,
-        Byte::Digit => true,
-        Byte::Letter => true,
-        Byte::Mark => true,
-    }
+    !matches!(byte_kind(b), Byte::Outside)
 }
 
 // "2 a byte outside the set": the index of the first, or the text's length.
 fn outside(text: &[u8]) -> usize
     ensures { result ≡ outside_at text.now }
 {
-    let mut i: usize = 0;
-    while i < text.len() {
-        if in_set(text[i]) {
-            i += 1;
-        } else {
-            return i;
-        }
-    }
-    i
+    scan(text, 0, in_set)
 }
 
 // "Each: 1; 2": "1 program over 32,768 or job over 8,192 bytes (offset: the limit)". The text's length, or the refusal.
-fn sound_bytes(limit: usize, text: &[u8]) -> Got
+fn sound_bytes(limit: usize, text: &[u8]) -> Result<usize, Refusal>
     ensures { result ≡ bytes_at limit text.now }
 {
-    if text.len() <= limit {
-        let first = outside(text);
-        if first < text.len() {
-            return Got::Refused {
-                number: 2,
-                offset: first,
-            };
-        }
-        return Got::Past(first);
+    if limit < text.len() {
+        return Err(Refusal {
+            number: 1,
+            offset: limit,
+        });
     }
-    Got::Refused {
-        number: 1,
-        offset: limit,
+    let first = outside(text);
+    if first < text.len() {
+        return Err(Refusal {
+            number: 2,
+            offset: first,
+        });
     }
+    Ok(first)
 }
 
 // "1 program over 32,768 .. bytes (offset: the limit)"; 2.
-pub fn sound_program(text: &[u8]) -> Got
+pub fn sound_program(text: &[u8]) -> Result<usize, Refusal>
     ensures { result ≡ bytes_at 32768 text.now }
 {
     sound_bytes(program_bytes(), text)
 }
 
 // "1 .. job over 8,192 bytes (offset: the limit)"; 2.
-pub fn sound_job(text: &[u8]) -> Got
+pub fn sound_job(text: &[u8]) -> Result<usize, Refusal>
     ensures { result ≡ bytes_at 8192 text.now }
 {
     sound_bytes(job_bytes(), text)

@@ -1,4 +1,4 @@
-// A word judged: how it fits as a name or a numeral, and its value (language/specs/Words.antt). A fit is its number (specs/twins/Marks.antt).
+// A word judged: how it fits as a name or a numeral, and its value (language/specs/Words.antt). A fit is its number (specs/Twins/Marks.antt).
 ghost use Rattle.std.specs.Prelude.{◌≡◌, ◌-◌, ◌%◌, length, drop};
 ghost use Rattle.language.specs.Words.{same as word_same, begins as beginsWord, name_fit, is_numeral, numeral_fit, number_fit};
 ghost use Rattle.words.specs.Twins.Marks.{fit_number};
@@ -8,17 +8,12 @@ use crate::cutting::{digits_end, name_end};
 use bounds::word::{is_name_length, is_number, is_number_length, is_numeral_length};
 
 // `start` is a beginning of `word`.
+#[tactic(auto, using(crate::proofs::WordLaws::begins_on, crate::proofs::WordLaws::begins_not, crate::proofs::WordLaws::begins_short, crate::proofs::WordLaws::begins_end))]
 pub fn begins(start: &[u8], word: &[u8]) -> bool
     ensures { result ≡ beginsWord start.now word.now }
 {
-    let mut i: usize = 0;
-    while i < start.len() {
-        if word.len() <= i {
-            return false;
-        }
-        if start[i] == word[i] {
-            i += 1;
-        } else {
+    for i in 0..start.len() {
+        if word.len() <= i || start[i] != word[i] {
             return false;
         }
     }
@@ -26,16 +21,15 @@ pub fn begins(start: &[u8], word: &[u8]) -> bool
 }
 
 // The same bytes.
+#[tactic(auto, using(crate::proofs::WordLaws::same_long, crate::proofs::WordLaws::same_unlike))]
 pub fn same(a: &[u8], b: &[u8]) -> bool
     ensures { result ≡ word_same a.now b.now }
 {
-    if a.len() == b.len() {
-        return begins(a, b);
-    }
-    false
+    a.len() == b.len() && begins(a, b)
 }
 
 // "F, NAME and Z have 1 to 16 letters or digits"; "4 a name over 16": the name stands from `from` on.
+#[tactic(auto, using(crate::proofs::WordLaws::name_none, crate::proofs::WordLaws::name_broken, crate::proofs::WordLaws::name_whole))]
 pub(crate) fn name_fit(word: &[u8], from: usize) -> u16
     ensures { result ≡ fit_number (name_fit (drop from word.now)) }
 {
@@ -52,6 +46,7 @@ pub(crate) fn name_fit(word: &[u8], from: usize) -> u16
 }
 
 // "Numerals are base ten, no leading noughts": from `from` on.
+#[tactic(auto, using(crate::proofs::WordLaws::numeral_none, crate::proofs::WordLaws::numeral_broken, crate::proofs::WordLaws::numeral_one, crate::proofs::WordLaws::numeral_last))]
 fn is_numeral(word: &[u8], from: usize) -> bool
     ensures { result ≡ is_numeral (drop from word.now) }
 {
@@ -61,70 +56,52 @@ fn is_numeral(word: &[u8], from: usize) -> bool
     if digits_end(word, from) < word.len() {
         return false;
     }
-    if word.len() - from == 1 {
-        return true;
-    }
-    if word[from] == 48 {
-        return false;
-    }
-    true
+    word.len() - from == 1 || word[from] != 48
 }
 
 // "at most 7 digits"; "4 a numeral over 7 digits"
 pub(crate) fn numeral_fit(word: &[u8], from: usize) -> u16
     ensures { result ≡ fit_number (numeral_fit (drop from word.now)) }
 {
-    if is_numeral(word, from) {
-        if is_numeral_length(left(word, from)) {
-            return 0;
-        }
-        return 2;
+    if !is_numeral(word, from) {
+        return 1;
     }
-    1
-}
-
-// How many bytes stand from `from` on.
-fn left(word: &[u8], from: usize) -> usize
-    ensures { result ≡ length word.now - from }
-{
-    if word.len() <= from {
+    if is_numeral_length(word.len().saturating_sub(from)) {
         0
     } else {
-        word.len() - from
+        2
     }
 }
 
 fn digit(b: u8) -> u32
     ensures { result ≡ b - 48 }
 {
-    if b < 48 { 0 } else { (b - 48) as u32 }
+    u32::from(b.saturating_sub(48))
 }
 
 // The value of the numeral from `from` on, modulo 65,536.
+#[tactic(auto, using(crate::proofs::WordLaws::value_on, crate::proofs::WordLaws::value_end))]
 pub fn value(word: &[u8], from: usize) -> u16
     ensures { result ≡ value_cell (drop from word.now) }
 {
     let mut v: u32 = 0;
-    let mut i = from;
-    while i < word.len() {
+    for i in from..word.len() {
         v = (10 * v + digit(word[i])) % 65536;
-        i += 1;
     }
     v as u16
 }
 
 // "K is 1 to 999"; "4 K outside 1 to 999"
+#[tactic(auto, using(crate::proofs::WordLaws::number_short, crate::proofs::WordLaws::number_long, crate::proofs::WordLaws::number_unfit))]
 pub(crate) fn number_fit(word: &[u8], from: usize) -> u16
     ensures { result ≡ fit_number (number_fit (drop from word.now)) }
 {
-    if is_numeral(word, from) {
-        if is_number_length(left(word, from)) {
-            if is_number(value(word, from)) {
-                return 0;
-            }
-            return 2;
-        }
-        return 2;
+    if !is_numeral(word, from) {
+        return 1;
     }
-    1
+    if is_number_length(word.len().saturating_sub(from)) && is_number(value(word, from)) {
+        0
+    } else {
+        2
+    }
 }

@@ -1,4 +1,5 @@
-// The keys of the fixed words and the tags of the kinds (language/specs/Tokens.antt: fixed_words, tag).
+// The keys of the fixed words and the tags of the kinds (language/specs/Tokens.antt: fixed_words, tag). Numbers and no enum: they stand in the cells of `marks`,
+// and what these hold is promised to whoever lends them (`read_program` and `read_job` of `texts`).
 pub const END: u16 = 0;
 
 pub const OPEN: u16 = 1;

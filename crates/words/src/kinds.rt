@@ -52,10 +52,7 @@ fn variable_kind(second: u8) -> u16
 fn key_if(fixed: &[u8], key: u16, other: u16, word: &[u8]) -> u16
     ensures { result ≡ cond (word_same fixed.now word.now) key other }
 {
-    if same(fixed, word) {
-        return key;
-    }
-    other
+    if same(fixed, word) { key } else { other }
 }
 
 // The place of a word among the fixed words; `OTHER` where it is none. It is compared with those alone that begin with its first byte.
@@ -93,25 +90,13 @@ pub fn key_of(word: &[u8]) -> u16
 pub fn fit_of(job: bool, kind: u16, word: &[u8]) -> u16
     ensures { result ≡ fit_number (fit_of (text_of job) (kind_at kind) word.now) }
 {
-    if kind == SYMBOL {
-        return name_fit(word, 1);
+    match kind {
+        SYMBOL => name_fit(word, 1),
+        ENAME | ANAME => name_fit(word, 2),
+        EVARIABLE | AVARIABLE => number_fit(word, 2),
+        _ if job => numeral_fit(word, 0),
+        _ => name_fit(word, 0),
     }
-    if kind == ENAME {
-        return name_fit(word, 2);
-    }
-    if kind == ANAME {
-        return name_fit(word, 2);
-    }
-    if kind == EVARIABLE {
-        return number_fit(word, 2);
-    }
-    if kind == AVARIABLE {
-        return number_fit(word, 2);
-    }
-    if job {
-        return numeral_fit(word, 0);
-    }
-    name_fit(word, 0)
 }
 
 // A number of 16 bits made of the word's bytes.
@@ -119,16 +104,8 @@ pub fn hash_of(word: &[u8]) -> u16
     ensures { result ≡ hash_of word.now }
 {
     let mut h: u32 = 0;
-    let mut i: usize = 0;
-    while i < word.len() {
-        h = (31 * h + widened(word[i])) % 65536;
-        i += 1;
+    for i in 0..word.len() {
+        h = (31 * h + u32::from(word[i])) % 65536;
     }
     h as u16
-}
-
-fn widened(b: u8) -> u32
-    ensures { result ≡ b }
-{
-    b as u32
 }

@@ -5,6 +5,6 @@
 pub mod bytes;
 pub mod cutting;
 pub mod fit;
-pub mod got;
 pub mod keys;
 pub mod kinds;
+mod scan;

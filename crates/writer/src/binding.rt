@@ -13,7 +13,7 @@ use window::sink::{Place, put_byte};
 use window::tree::put_tree;
 
 // The line's cells `start` up to `end`.
-#[derive(Drop)]
+#[derive(Clone, Copy)]
 struct Span {
     start: usize,
     end: usize,
@@ -90,14 +90,12 @@ pub fn put_bindings(
     ensures { sink result out.new ≡ puts (sink place out.old) (bindings_text (symbol_text program.now job.now symbols.now) io.now line.now) }
 {
     let mut p = place;
-    let mut i: usize = 0;
     let mut k: usize = 0;
-    while i < io.len() {
+    for i in 0..io.len() {
         let end = past(io[i], line, k);
         let value = Span { start: k, end };
         p = put_binding(out, p, program, job, symbols, io, i, line, value);
         k = end;
-        i += 1;
     }
     p
 }

@@ -45,10 +45,8 @@ fn put_restriction(
     ensures { sink result out.new ≡ puts (sink place out.old) (restriction_text (symbol_text program.now job.now symbols.now) q.now) }
 {
     let mut p = place;
-    let mut i: usize = 0;
-    while 2 <= q.len() - i {
-        p = put_non_equality(out, p, program, job, symbols, q[i], q[i + 1]);
-        i += 2;
+    for k in 0..q.len() / 2 {
+        p = put_non_equality(out, p, program, job, symbols, q[2 * k], q[2 * k + 1]);
     }
     p
 }
@@ -57,9 +55,7 @@ fn put_restriction(
 pub fn line_end(line: &[u16]) -> usize
     ensures { result ≡ line_end line.now }
 {
-    4 + cell::cell(line, 1) as usize
-        + cell::cell(line, 2) as usize
-        + 2 * cell::cell(line, 3) as usize
+    class_end(line) + 2 * usize::from(cell::cell(line, 3))
 }
 
 // Two numbers with a blank between.
@@ -86,7 +82,7 @@ fn put_line(
 {
     let m = class_end(line);
     let n = line_end(line);
-    let p = put_numbers(out, place, i, cell::cell(line, 0) as usize);
+    let p = put_numbers(out, place, i, usize::from(cell::cell(line, 0)));
     let b = put_bindings(out, p, program, job, symbols, io, part(line, 4, m));
     let q = put_restriction(out, b, program, job, symbols, part(line, m, n));
     put_byte(out, q, b'\n')
@@ -107,9 +103,8 @@ pub fn put_lines(
     ensures { sink result out.new ≡ puts (sink place out.old) (lines_text (symbol_text program.now job.now symbols.now) io.now samples lines 0 answer.now) }
 {
     let mut p = place;
-    let mut i: usize = 0;
     let mut at: usize = 0;
-    while i < lines {
+    for i in 0..lines {
         if answer.len() <= at {
             return p;
         }
@@ -117,8 +112,7 @@ pub fn put_lines(
             return p;
         }
         let line = rest(answer, at);
-        i += 1;
-        let l = put_line(out, p, program, job, symbols, io, i, line);
+        let l = put_line(out, p, program, job, symbols, io, i + 1, line);
         p = put_sample_if(out, l, program, job, symbols, line, samples);
         at = ahead(at, line_end(line), answer.len());
     }

@@ -1,23 +1,16 @@
-// The text of a run: `value STEPS EXPR`, `stop21` or `notwithin`.
+// The text of what a run comes to: `value STEPS EXPR`, `stop21` or `notwithin`.
 ghost use Rattle.std.specs.Prelude.{◌≡◌, ◌*◌, ◌-◌, min, length, take};
 ghost use Rattle.window.specs.Windows.{windowed};
 ghost use Rattle.window.specs.Twins.Sink.{sink, puts};
 ghost use Rattle.window.specs.Twins.TreeText.{symbol_text};
 ghost use Rattle.writer.specs.Twins.OutcomeText.{value_text, outcome_text};
 
+use run_answers::run::Ran;
 use window::digit::put_digits;
 use window::parts::front;
 use window::sink;
 use window::sink::Place;
 use window::tree::put_tree;
-
-// The value has `length` cells.
-#[derive(Drop)]
-pub enum Outcome {
-    Value { steps: usize, length: usize },
-    Over,
-    NotWithin,
-}
 
 fn put_value(
     out: &mut [u8],
@@ -43,22 +36,18 @@ fn put_outcome(
     program: &[u8],
     job: &[u8],
     symbols: &[u16],
-    outcome: Outcome,
+    outcome: Ran,
     answer: &[u16],
 ) -> Place
     ensures { sink result out.new ≡ puts (sink place out.old) (outcome_text (symbol_text program.now job.now symbols.now) answer.now outcome) }
 {
     match outcome {
-        Outcome::Value { steps, length } => {
+        Ran::Value { steps, length } => {
             let value = front(answer, length);
-            return put_value(out, place, program, job, symbols, steps, value);
+            put_value(out, place, program, job, symbols, steps, value)
         }
-        Outcome::Over => {
-            return sink::put_text(out, place, b"stop21\n");
-        }
-        Outcome::NotWithin => {
-            return sink::put_text(out, place, b"notwithin\n");
-        }
+        Ran::Over => sink::put_text(out, place, b"stop21\n"),
+        Ran::NotWithin => sink::put_text(out, place, b"notwithin\n"),
     }
 }
 
@@ -69,14 +58,14 @@ pub fn print_outcome(
     job: &[u8],
     symbols: &[u16],
     found: u16,
-    outcome: Outcome,
+    outcome: Ran,
     answer: &[u16],
     from: usize,
     out: &mut [u8],
 ) -> usize
     ensures { let text = outcome_text (symbol_text program.now job.now (take (2 * found) symbols.now)) answer.now outcome in (result ≡ min (length out.old) (length text - from)) × (out.new ≡ windowed (length out.old) from text) }
 {
-    let table = front(symbols, 2 * (found as usize));
+    let table = front(symbols, 2 * usize::from(found));
     sink::clear(out);
     let start = sink::opened(from);
     let p = put_outcome(out, start, program, job, table, outcome, answer);

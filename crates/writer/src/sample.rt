@@ -16,7 +16,7 @@ use window::tree::put_tree;
 pub(crate) fn class_end(line: &[u16]) -> usize
     ensures { result ≡ class_end line.now }
 {
-    4 + cell::cell(line, 1) as usize + cell::cell(line, 2) as usize
+    4 + usize::from(cell::cell(line, 1)) + usize::from(cell::cell(line, 2))
 }
 
 // A blank and the tree, for each of the trees that stand one behind the other.
@@ -65,7 +65,7 @@ pub fn fill_line(line: &[u16], cells: &mut [u16; 4096]) -> usize
     ensures { let w = filled_line line.now cells.old in (result ≡ w.size) × (cells.new ≡ w.cells) }
 {
     let class = part(line, 4, class_end(line));
-    let n = cell::least(class.len(), 4096);
+    let n = class.len().min(4096);
     tree::copy(class, 0, n, cells, 0);
     fill_sample(cells, n);
     n
@@ -100,7 +100,7 @@ fn put_filled(
 {
     let mut cells: [u16; 4096] = [0; 4096];
     let n = fill_line(line, &mut cells);
-    let ins = cell::cell(line, 1) as usize;
+    let ins = usize::from(cell::cell(line, 1));
     put_cells(out, place, program, job, symbols, &cells, n, ins)
 }
 

@@ -5,8 +5,6 @@ use Rattle.std.specs.Prelude.{ℕ, zero, suc, ◌+◌, ◌-◌, ◌<◌, ◌≡�
 use Prim.Native.String.{String}
 use Rattle.language.specs.Bytes.{txt}
 use Rattle.language.specs.Tokens.{Kind, symbol, ename, aname, tag, key_of}
-use Rattle.verdicts.specs.declared.found.Verdict.{Verdict}
-use Rattle.verdicts.specs.declared.found.Verdict.TheVariants.{Fine, Fault}
 use Rattle.verdicts.specs.declared.found.Walked.{Walked}
 use Rattle.verdicts.specs.declared.found.Args.{Args}
 use Rattle.checker.specs.declared.check.Names.{Names}
@@ -14,6 +12,8 @@ pub use Rattle.verdicts.specs.Twins.Found.{first, judge, walked, called, argumen
 unfoldable pub use Rattle.verdicts.specs.Twins.Found.{branched}
 use Rattle.checker.specs.declared.check.Defs.{Defs}
 use Rattle.checker.specs.declared.check.Bodies.{Bodies}
+use Rattle.verdicts.specs.Twins.Found.{Verdict, fine}
+use Rattle.refusals.specs.Faults.{fault}
 
 -- k tokens on, and no further than the n tokens that there are
 abbrev pub ahead : ℕ → ℕ → ℕ → ℕ
@@ -47,7 +47,7 @@ pick_term true p q sc i = p sc i
 pick_term false p q sc i = q sc i
 
 abbrev pub no_defs : Defs
-no_defs = record { heads = replicate 64 0; count = 0; past = 0; names = Fine }
+no_defs = record { heads = replicate 64 0; count = 0; past = 0; names = fine }
 
 -- one definition more, whose name stands at h and which ends before k
 abbrev pub added : Defs → ℕ → ℕ → Verdict → Defs
@@ -119,14 +119,14 @@ module _ (key kind num at : ℕ → ℕ) (n : ℕ) where
 
   -- "9 variable not in reach"
   abbrev pub leaf_at : Names → ℕ → Walked
-  leaf_at sc i = walked (ahead n 1 i) Fine Fine (judge (is_kind symbol i || in_reach sc i) 9 (at i))
+  leaf_at sc i = walked (ahead n 1 i) fine fine (judge (is_kind symbol i || in_reach sc i) 9 (at i))
 
   -- `(cons e e)`
   abbrev pub pair_at : (ℕ → Walked) → ℕ → Walked
   pair_at again i =
       let c = again (ahead n 2 i) in
       let d = again c.past in
-      walked (ahead n 1 d.past) Fine Fine (first c.uses d.uses)
+      walked (ahead n 1 d.past) fine fine (first c.uses d.uses)
 
   -- an e
   unfoldable pub exp_at : ℕ → Names → ℕ → Walked
@@ -136,7 +136,7 @@ module _ (key kind num at : ℕ → ℕ) (n : ℕ) where
   -- "8 not atomic where an ea is due", then 9
   unfoldable pub ea_at : ℕ → Names → ℕ → Walked
   unfolding exp_at
-  ea_at room sc i = let c = exp_at room sc i in walked c.past Fine Fine (first (judge (atomic_at key kind i) 8 (at i)) c.uses)
+  ea_at room sc i = let c = exp_at room sc i in walked c.past fine fine (first (judge (atomic_at key kind i) 8 (at i)) c.uses)
 
   -- "A parameter `a.NAME` takes only an ea": the parameter stands at p
   abbrev pub arg_at : ℕ → Names → ℕ → ℕ → Walked
@@ -157,7 +157,7 @@ module _ (key kind num at : ℕ → ℕ) (n : ℕ) where
     call_at room sc i =
         let f = ahead n 2 i in
         let g = place_at num heads count 0 (num f) in
-        let c = args_at n room sc (ahead n 2 (get_or heads g 0)) true Fine (ahead n 4 i) in
+        let c = args_at n room sc (ahead n 2 (get_or heads g 0)) true fine (ahead n 4 i) in
         called (ahead n 2 c.past) (judge (ltb g count && c.fits) 7 (at f)) c.uses
 
     -- `(if (eqa? ea ea) t t)`
@@ -167,7 +167,7 @@ module _ (key kind num at : ℕ → ℕ) (n : ℕ) where
         let d = ea_at room sc c.past in
         let s = again sc (ahead n 1 d.past) in
         let u = again sc s.past in
-        branched (ahead n 1 u.past) (walked d.past Fine Fine (first c.uses d.uses)) s u
+        branched (ahead n 1 u.past) (walked d.past fine fine (first c.uses d.uses)) s u
 
     -- `(if (cons? e xe xe xa) t t)`: "The true branch of `cons?` has its two xe, the false branch its xa"
     abbrev pub consp_at : (Names → ℕ → Walked) → ℕ → Names → ℕ → Walked
@@ -194,9 +194,9 @@ module _ (key kind num at : ℕ → ℕ) (n : ℕ) where
 
   -- "6 ... a parameter defined twice (offset: the second name)"; `before` are the earlier ones
   unfoldable pub params_twice : ℕ → Names → ℕ → Verdict
-  params_twice zero before i = Fine
+  params_twice zero before i = fine
   params_twice (suc room) before i =
-      cond (is_key "]" i) Fine (cond (in_reach before i) (Fault 6 (at i)) (params_twice room (push before i) (ahead n 1 i)))
+      cond (is_key "]" i) fine (cond (in_reach before i) (fault 6 (at i)) (params_twice room (push before i) (ahead n 1 i)))
 
   -- the body of the definition that starts at i, for 6
   abbrev pub walked_body : List ℕ → ℕ → Walked
@@ -232,5 +232,5 @@ module _ (key kind num at : ℕ → ℕ) (n : ℕ) where
   unfolding defs_at bodies_at
   program_at =
       let ds = defs_at 64 no_defs in
-      let found = bodies_at ds.heads ds.count ds.count 0 Fine Fine in
+      let found = bodies_at ds.heads ds.count ds.count 0 fine fine in
       first ds.names (first found.rebound found.uses)

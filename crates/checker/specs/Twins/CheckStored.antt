@@ -1,14 +1,14 @@
--- The check by position (specs/twins/CheckAt.antt) of stored tokens, n of them: what the functions of the code come to.
+-- The check by position (specs/Twins/CheckAt.antt) of stored tokens, n of them: what the functions of the code come to.
 use Rattle.std.specs.Prelude.{ℕ, Bool, List}
 use Rattle.checker.specs.Twins.StoredAt.{key_at, tag_at, num_at, at_at}
 use Rattle.checker.specs.Twins.CheckAt as at
 use Rattle.checker.specs.Twins.CheckAt.{names}
-use Rattle.verdicts.specs.declared.found.Verdict.{Verdict}
 use Rattle.verdicts.specs.declared.found.Walked.{Walked}
 use Rattle.verdicts.specs.declared.found.Args.{Args}
 use Rattle.checker.specs.declared.check.Names.{Names}
 use Rattle.checker.specs.declared.check.Defs.{Defs}
 use Rattle.checker.specs.declared.check.Bodies.{Bodies}
+use Rattle.verdicts.specs.Twins.Found.{Verdict}
 
 module _ (marks : List ℕ) (n : ℕ) where
   abbrev pub atomic_at : ℕ → Bool

@@ -1,10 +1,9 @@
 -- The value of a name at an end, worked out in the environment before it, over cells of any content.
-use Rattle.std.specs.Prelude.{ℕ, zero, suc, ◌+◌, cond, List, eqb, ltb}
+use Rattle.std.specs.Prelude.{ℕ, zero, suc, ◌+◌, cond, List, eqb, ltb, Some, None}
 use Rattle.heap.specs.declared.configuration.Configuration.{Configuration}
 use Rattle.linking.specs.Twins.Code.{link_at}
 use Rattle.values.specs.Twins.Names.{names_from, names_in}
-use Rattle.values.specs.Twins.Values.{ValueLeft, value_left, value_at}
-use Rattle.values.specs.declared.value.Valued.TheVariants.{At, Over}
+use Rattle.values.specs.Twins.Values.{ValueLeft, valued, value_left, value_at}
 use Rattle.looking.specs.Twins.Looking.{test_at}
 use Rattle.looking.specs.declared.look.Tested.{Tested}
 use Rattle.looking.specs.declared.look.Tested.TheVariants.{Atom, Pair, Variable, Large}
@@ -30,10 +29,10 @@ part_index code c q j = cond (ltb q (names_in c)) j (cond (eqb q (names_in c)) (
 
 -- by what a `cons?` tests
 unfoldable pub tested_named : List ℕ → Configuration → Tested → ℕ → ℕ → List ℕ → List ℕ → ValueLeft
-tested_named code c (Atom from to used) q j h f = cond (ltb q (names_in c)) (own_at code c j h f) (value_left (At from to used 0) h)
+tested_named code c (Atom from to used) q j h f = cond (ltb q (names_in c)) (own_at code c j h f) (value_left (Some (valued from to used 0)) h)
 tested_named code c (Pair from mid to used) q j h f =
-    cond (ltb q (names_in c)) (own_at code c j h f) (cond (eqb q (names_in c)) (value_left (At from mid used 0) h) (value_left (At mid to used 0) h))
-tested_named code c (Variable x) q j h f = value_left Over h
+    cond (ltb q (names_in c)) (own_at code c j h f) (cond (eqb q (names_in c)) (value_left (Some (valued from mid used 0)) h) (value_left (Some (valued mid to used 0)) h))
+tested_named code c (Variable x) q j h f = value_left None h
 tested_named code c Large q j h f = own_at code c (part_index code c q j) h f
 
 -- by what the term before the end asks; the name's token stands at j

@@ -1,20 +1,19 @@
 -- One transition of a run, over cells of any content.
-use Rattle.std.specs.Prelude.{ℕ, ◌-◌, min, Bool, cond, List, ltb}
+use Rattle.std.specs.Prelude.{ℕ, ◌-◌, min, Bool, cond, List, ltb, Result, Ok, Err}
+use Rattle.restrictions.specs.declared.failure.Failure.{Failure}
+use Rattle.std.specs.declared.ops.ControlFlow.{ControlFlow}
+use Rattle.std.specs.declared.ops.ControlFlow.TheVariants.{Continue, Break}
 use Rattle.compaction.specs.Twins.Compacting.{Compaction, compacted}
 use Rattle.heap.specs.Twins.Entries.{nodes_from}
 use Rattle.heap.specs.Twins.Moving.{Left}
 use Rattle.heap.specs.declared.configuration.Configuration.{Configuration}
-use Rattle.heap.specs.declared.configuration.Moved.{Moved}
-use Rattle.heap.specs.declared.configuration.Moved.TheVariants.{On as MovedOn, Contradiction, Over as MovedOver}
 use Rattle.tracing.specs.Twins.Asking.{AskLeft, asked_at, branches_asked, taken_as}
 use Rattle.tracing.specs.declared.ask.Asked.{Asked}
 use Rattle.forward.specs.Twins.Next.{next_place, ends_at, over_in}
 use Rattle.forward.specs.Twins.Output.{OutLeft, output_put}
 use Rattle.running.specs.Twins.Answers.{ran_by}
-use Rattle.running.specs.declared.ran.Ran.{Ran}
-use Rattle.running.specs.declared.ran.Ran.TheVariants.{Over}
-use Rattle.forward.specs.declared.turn.Turn.{Turn}
-use Rattle.forward.specs.declared.turn.Turn.TheVariants.{On, Ended}
+use Rattle.run_answers.specs.declared.run.Ran.{Ran}
+use Rattle.run_answers.specs.declared.run.Ran.TheVariants.{Over}
 
 unfoldable pub used_as : Configuration → ℕ → Configuration
 used_as c used = record { inputs = c.inputs; outputs = c.outputs; entries = c.entries; used = used; neqs = c.neqs; place = c.place; counter = c.counter }
@@ -36,7 +35,7 @@ roomed c h f = cond (ltb 40959 c.used) (roomed_to c (compacted c.entries 0 c.use
 
 -- "at an end of the inputs and the output": how many nodes an output may have
 abbrev pub output_room : Configuration → List ℕ → ℕ
-output_room c f = 4096 - min (nodes_from (min c.inputs 4120) 0 f) 4096
+output_room c f = 4096 - nodes_from (min c.inputs 4120) 0 f
 
 -- what a run comes to, and what is left in heap and answer storage
 pub record FinishLeft : Type 0 where
@@ -53,6 +52,10 @@ finished_by steps w = finish_left (ran_by steps w.answer) w.heap w.cells
 unfoldable pub finished : List ℕ → Configuration → Asked → ℕ → ℕ → List ℕ → List ℕ → List ℕ → FinishLeft
 finished code c a i steps h f d = finished_by steps (output_put code c a (output_room c f) f i h d)
 
+-- the next state, or what the run comes to
+abbrev pub Turn : Type 0
+Turn = ControlFlow Ran Configuration
+
 -- a turn, and what is left in heap, frame and non-equalities
 pub record TurnBy : Type 0 where
   pub turn : Turn
@@ -64,10 +67,9 @@ abbrev pub turn_by : Turn → List ℕ → List ℕ → List ℕ → TurnBy
 turn_by t h f q = record { turn = t; heap = h; frame = f; q = q }
 
 -- "21 .. after a transition"
-abbrev pub sized_turn : Moved → List ℕ → Turn
-sized_turn (MovedOn d) f = cond (over_in d f) (Ended Over) (On d)
-sized_turn Contradiction f = Ended Over
-sized_turn MovedOver f = Ended Over
+abbrev pub sized_turn : Result Configuration Failure → List ℕ → Turn
+sized_turn (Ok d) f = cond (over_in d f) (Break Over) (Continue d)
+sized_turn (Err e) f = Break Over
 
 abbrev pub sized_left : Left → TurnBy
 sized_left w = turn_by (sized_turn w.answer w.frame) w.heap w.frame w.q
@@ -87,7 +89,7 @@ abbrev pub turn_left : Turn → List ℕ → List ℕ → List ℕ → List ℕ 
 turn_left t h f q d = record { turn = t; heap = h; frame = f; q = q; answer = d }
 
 abbrev pub ended_turn : List ℕ → List ℕ → FinishLeft → TurnLeft
-ended_turn f q w = turn_left (Ended w.ran) w.heap f q w.answer
+ended_turn f q w = turn_left (Break w.ran) w.heap f q w.answer
 
 abbrev pub went_turn : List ℕ → TurnBy → TurnLeft
 went_turn d w = turn_left w.turn w.heap w.frame w.q d

@@ -1,9 +1,7 @@
 -- Entries of a frame, three cells each, for cells of any content.
-use Rattle.std.specs.Prelude.{ℕ, zero, suc, ◌+◌, ◌-◌, ◌*◌, min, cond, List, leb, ltb, get_or, set}
+use Rattle.std.specs.Prelude.{ℕ, zero, suc, ◌+◌, ◌-◌, ◌*◌, min, cond, List, leb, ltb, get_or, set, Option, Some, None}
 use Rattle.std.proofs.lemmas.List.Edits.{sets}
 use Rattle.runs.specs.Twins.Runs.{cells_at}
-use Rattle.heap.specs.declared.entry.Pushed.{Pushed}
-use Rattle.heap.specs.declared.entry.Pushed.TheVariants.{Done, Full}
 
 -- what is known of the value: 2 n + c, where n is how many cells the head of a pair has, c is 1 where no variable stands in it; 0 where it isn't known
 abbrev pub entry_known : List ℕ → ℕ → ℕ
@@ -19,14 +17,14 @@ unfoldable pub entry : ℕ → ℕ → ℕ → ℕ → List ℕ → List ℕ
 entry i known from to f = set (set (set f (3 * i) known) (3 * i + 1) (min from 65535)) (3 * i + 2) (min to 65535)
 
 pub record PushAnswer : Type 0 where
-  pub answer : Pushed
+  pub answer : Option ℕ
   pub frame : List ℕ
 
-abbrev pub push_answer : Pushed → List ℕ → PushAnswer
+abbrev pub push_answer : Option ℕ → List ℕ → PushAnswer
 push_answer a f = record { answer = a; frame = f }
 
 unfoldable pub pushed : ℕ → ℕ → ℕ → ℕ → List ℕ → PushAnswer
-pushed n known from to f = cond (leb 4120 n) (push_answer Full f) (push_answer (Done (n + 1)) (entry n known from to f))
+pushed n known from to f = cond (leb 4120 n) (push_answer None f) (push_answer (Some (n + 1)) (entry n known from to f))
 
 -- the cells of n entries, written at another entry's place
 abbrev pub moved_down : ℕ → ℕ → ℕ → List ℕ → List ℕ

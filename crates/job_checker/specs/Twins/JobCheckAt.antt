@@ -1,15 +1,14 @@
 -- The check of a job by position: 10, 11, 12, over the tokens of a job that was read without refusal and of the program before it.
--- proofs/JobLaws.antt: it finds what language/specs/JobCheck.antt finds.
+-- syntax/proofs/JobLaws.antt: it finds what language/specs/JobCheck.antt finds.
 use Prim.Native.Nat.{ℕ, zero, suc, ◌+◌, ◌-◌}
 use Rattle.std.specs.Prelude.{Bool, ◌&&◌, ◌||◌, List, leb, get_or, set, replicate}
 use Rattle.std.proofs.Math.Bool.{true, false, cond, not}
 use Rattle.std.proofs.Math.Dec.{eqb}
 use Rattle.language.specs.Tokens.{symbol, aname, evariable, avariable, tag}
-use Rattle.verdicts.specs.declared.found.Verdict.{Verdict}
-use Rattle.verdicts.specs.declared.found.Verdict.TheVariants.{Fine}
 use Rattle.verdicts.specs.declared.found.Walked.{Walked}
 use Rattle.verdicts.specs.declared.found.Args.{Args}
 use Rattle.checker.specs.Twins.CheckAt.{first, judge, ahead, walked, arguments, pick}
+use Rattle.verdicts.specs.Twins.Found.{Verdict, fine}
 
 -- key, kind, num and at give what a token of the job holds, by its index; there are n. `runs` is whether the tool is the runner.
 module _ (key kind : ℕ → ℕ) where
@@ -19,14 +18,14 @@ module _ (key kind : ℕ → ℕ) where
 module _ (kind at : ℕ → ℕ) (n : ℕ) (runs : Bool) where
   -- "in the runner, any variable in an input (offset: the variable)"
   abbrev pub datum_leaf : ℕ → Walked
-  datum_leaf i = walked (ahead n 1 i) Fine Fine (judge (eqb (kind i) (tag symbol) || not runs) 10 (at i))
+  datum_leaf i = walked (ahead n 1 i) fine fine (judge (eqb (kind i) (tag symbol) || not runs) 10 (at i))
 
 module _ (n : ℕ) where
   abbrev pub datum_pair : (ℕ → Walked) → ℕ → Walked
   datum_pair again i =
       let c = again (ahead n 2 i) in
       let d = again c.past in
-      walked (ahead n 1 d.past) Fine Fine (first c.uses d.uses)
+      walked (ahead n 1 d.past) fine fine (first c.uses d.uses)
 
 module _ (key kind at : ℕ → ℕ) (n : ℕ) (runs : Bool) where
   -- a d
@@ -41,7 +40,7 @@ module _ (key kind at : ℕ → ℕ) (n : ℕ) (runs : Bool) where
     unfolding datum_at
     input_at p i =
         let c = datum_at 62 i in
-        walked c.past Fine Fine (first (judge (not (eqb (mkind p) (tag aname)) || atomic_at key kind i) 10 (at i)) c.uses)
+        walked c.past fine fine (first (judge (not (eqb (mkind p) (tag aname)) || atomic_at key kind i) 10 (at i)) c.uses)
 
     -- the inputs from i on, the parameters from p on; b is whether they are as many so far, v the first fault so far
     unfoldable pub inputs_at : ℕ → ℕ → Bool → Verdict → ℕ → Args
@@ -58,7 +57,7 @@ module _ (kind num : ℕ → ℕ) where
   marked_from zero j cells = cells
   marked_from (suc left) j cells = marked_from left (j + 1) (cond (eqb (kind j) (tag avariable)) (set cells (num j) 1) cells)
 
-  -- `?aK` with number x stands there: what such a cell says (proofs/JobLaws.antt: marked-stands)
+  -- `?aK` with number x stands there: what such a cell says (syntax/proofs/JobLaws.antt: marked_stands)
   unfoldable pub stands_from : ℕ → ℕ → ℕ → Bool
   stands_from zero j x = false
   stands_from (suc left) j x = (eqb (kind j) (tag avariable) && eqb (num j) x) || stands_from left (j + 1) x
@@ -75,14 +74,14 @@ module _ (key kind num at : ℕ → ℕ) (n : ℕ) (runs : Bool) where
   two_sides marked i =
       let d = (datum_at key kind at n runs 61 i).past in
       let e = (datum_at key kind at n runs 61 d).past in
-      walked (ahead n 1 e) Fine Fine (first (judge (side_at key kind num marked i) 11 (at i)) (judge (side_at key kind num marked d) 11 (at d)))
+      walked (ahead n 1 e) fine fine (first (judge (side_at key kind num marked i) 11 (at i)) (judge (side_at key kind num marked d) 11 (at d)))
 
   unfoldable pub sides_at : ℕ → List ℕ → Verdict → ℕ → Walked
   unfolding two_sides
-  sides_at zero marked v i = walked i Fine Fine v
+  sides_at zero marked v i = walked i fine fine v
   sides_at (suc f) marked v i =
       let c = two_sides marked (ahead n 1 i) in
-      cond (eqb (key i) 2) (walked i Fine Fine v) (sides_at f marked (first v c.uses) c.past)
+      cond (eqb (key i) 2) (walked i fine fine v) (sides_at f marked (first v c.uses) c.past)
 
 -- "12 N, W or T too large": val gives the value of a numeral
 module _ (at val : ℕ → ℕ) (n : ℕ) where
@@ -98,8 +97,8 @@ module _ (key kind at : ℕ → ℕ) (n : ℕ) (runs : Bool) (mkey mkind : ℕ �
   unfoldable pub tens_at : ℕ → Walked
   unfolding inputs_at
   tens_at p =
-      let ins = inputs_at key kind at n runs mkey mkind m n p true Fine 4 in
-      walked ins.past Fine Fine (first (judge ins.fits 10 (at 3)) ins.uses)
+      let ins = inputs_at key kind at n runs mkey mkind m n p true fine 4 in
+      walked ins.past fine fine (first (judge ins.fits 10 (at 3)) ins.uses)
 
 -- 11 whole: the inputs end at a; inputs and output stand from 4 to before `end`, and "K is 1 to 999"
 module _ (key kind num at : ℕ → ℕ) (n : ℕ) (runs : Bool) where
@@ -107,7 +106,7 @@ module _ (key kind num at : ℕ → ℕ) (n : ℕ) (runs : Bool) where
   unfolding sides_at
   elevens_at a =
       let end = (datum_at key kind at n runs 62 (ahead n 3 a)).past in
-      sides_at key kind num at n runs n (marked_from kind num (end - 4) 4 (replicate 1000 0)) Fine (ahead n 3 end)
+      sides_at key kind num at n runs n (marked_from kind num (end - 4) 4 (replicate 1000 0)) fine (ahead n 3 end)
 
 module _ (key kind num at val : ℕ → ℕ) (n : ℕ) (mkey mkind : ℕ → ℕ) (m : ℕ) (runs : Bool) where
   -- "Job: 10, 11, 12"

@@ -1,12 +1,12 @@
--- The check of a job by position (specs/twins/JobCheckAt.antt) of stored tokens, n of the job and m of the program before it: what the functions
+-- The check of a job by position (specs/Twins/JobCheckAt.antt) of stored tokens, n of the job and m of the program before it: what the functions
 -- of the code come to. A numeral may be larger than a cell, so its value is read again from the text.
 use Rattle.std.specs.Prelude.{ℕ, zero, suc, ◌+◌, ◌*◌, ◌-◌, Bool, cond, List, leb, ltb, length, get_or}
 use Rattle.checker.specs.Twins.StoredAt.{key_at, tag_at, num_at, at_at}
 use Rattle.checker.specs.Twins.CheckAt.{ahead}
 use Rattle.job_checker.specs.Twins.JobCheckAt as at
-use Rattle.verdicts.specs.declared.found.Verdict.{Verdict}
 use Rattle.verdicts.specs.declared.found.Walked.{Walked}
 use Rattle.verdicts.specs.declared.found.Args.{Args}
+use Rattle.verdicts.specs.Twins.Found.{Verdict}
 
 -- "Numerals are base ten ... at most 7 digits": v is what the digits before come to, `left` how many more may stand
 unfoldable pub numeral_from : List ℕ → ℕ → ℕ → ℕ → ℕ

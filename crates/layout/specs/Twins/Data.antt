@@ -1,7 +1,6 @@
 -- The cells of a job's data: what each function of datum.rt answers and leaves.
-use Rattle.std.specs.Prelude.{ℕ, zero, suc, ◌+◌, ◌*◌, ◌%◌, cond, List, [], ◌∷◌, eqb, get_or}
+use Rattle.std.specs.Prelude.{ℕ, zero, suc, ◌+◌, ◌*◌, ◌%◌, cond, List, [], ◌∷◌, eqb, get_or, Some}
 use Rattle.sets.specs.Twins.Fill.{FillAnswer, fill_answer}
-use Rattle.sets.specs.declared.fill.Filled.TheVariants.{Done}
 use Rattle.runs.specs.Twins.Runs.{written}
 use Rattle.linking.specs.Twins.Linking.{key_of, kind_of}
 use Rattle.values.specs.Twins.Values.{onward_fill}
@@ -21,9 +20,9 @@ module _ (marks nums : List ℕ) where
 
   -- at k
   unfoldable pub datum_written : ℕ → ℕ → List ℕ → FillAnswer
-  datum_written i k h = cond (eqb (datum_cell i) 0) (fill_answer (Done k) h) (written k 1 (datum_cell i ∷ []) h)
+  datum_written i k h = cond (eqb (datum_cell i) 0) (fill_answer (Some k) h) (written k 1 (datum_cell i ∷ []) h)
 
   -- those of `left` tokens from i on, one behind the other
   unfoldable pub data_written : ℕ → ℕ → ℕ → List ℕ → FillAnswer
-  data_written zero i k h = fill_answer (Done k) h
+  data_written zero i k h = fill_answer (Some k) h
   data_written (suc left) i k h = let w = datum_written i k h in onward_fill (λ m g. data_written left (i + 1) m g) w.answer w.cells

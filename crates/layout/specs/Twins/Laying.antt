@@ -1,36 +1,32 @@
 -- A job's cells in the heap, and its non-equalities: what each function of job.rt answers and leaves.
-use Rattle.std.specs.Prelude.{ℕ, ◌-◌, ◌/◌, min, Bool, true, false, cond, List, [], ◌∷◌}
+use Rattle.std.specs.Prelude.{ℕ, ◌-◌, ◌/◌, min, Bool, true, false, cond, List, [], ◌∷◌, Option, Some, None, Err}
+use Rattle.restrictions.specs.declared.failure.Failure.TheVariants.{Over}
 use Rattle.sets.specs.Twins.Copying.{CopyAnswer, copied}
 use Rattle.sets.specs.Twins.Fill.{FillAnswer, fill_answer}
 use Rattle.restrictions.specs.Twins.Restricting.{RestrictAnswer, restrict_answer, simplify_cells}
-use Rattle.sets.specs.declared.fill.Filled.{Filled}
-use Rattle.sets.specs.declared.fill.Filled.TheVariants.{Done, Over}
-use Rattle.restrictions.specs.declared.restriction.Restricted.TheVariants.{Full}
 use Rattle.syntax.specs.declared.job_ends.JobEnds.{JobEnds}
 use Rattle.runs.specs.Twins.Runs.{written}
 use Rattle.layout.specs.Twins.Data.{data_written}
 use Rattle.layout.specs.declared.job.Parts.{Parts}
-use Rattle.layout.specs.declared.job.Laid.{Laid}
-use Rattle.layout.specs.declared.job.Laid.TheVariants.{Done as Lies, Over as LaidOver}
 
 abbrev pub parts_of : ℕ → ℕ → ℕ → Parts
 parts_of ins io all = record { ins = ins; io = io; all = all }
 
 pub record LaidLeft : Type 0 where
-  pub answer : Laid
+  pub answer : Option Parts
   pub heap : List ℕ
 
-abbrev pub laid_left : Laid → List ℕ → LaidLeft
+abbrev pub laid_left : Option Parts → List ℕ → LaidLeft
 laid_left a h = record { answer = a; heap = h }
 
-abbrev pub laid_as : ℕ → ℕ → Filled → Laid
-laid_as ins io (Done k) = Lies (parts_of ins io k)
-laid_as ins io Over = LaidOver
+abbrev pub laid_as : ℕ → ℕ → Option ℕ → Option Parts
+laid_as ins io (Some k) = Some (parts_of ins io k)
+laid_as ins io None = None
 
 -- on from an answer
-abbrev pub onward_laid : (ℕ → List ℕ → LaidLeft) → Filled → List ℕ → LaidLeft
-onward_laid again (Done k) h = again k h
-onward_laid again Over h = laid_left LaidOver h
+abbrev pub onward_laid : (ℕ → List ℕ → LaidLeft) → Option ℕ → List ℕ → LaidLeft
+onward_laid again (Some k) h = again k h
+onward_laid again None h = laid_left None h
 
 module _ (marks nums : List ℕ) (e : JobEnds) where
   -- in a run the symbol 0
@@ -39,7 +35,7 @@ module _ (marks nums : List ℕ) (e : JobEnds) where
 
   -- in a run none
   unfoldable pub sides_laid : ℕ → Bool → List ℕ → FillAnswer
-  sides_laid at run h = cond run (fill_answer (Done at) h) (data_written marks nums (e.neqs - e.sides) e.sides at h)
+  sides_laid at run h = cond run (fill_answer (Some at) h) (data_written marks nums (e.neqs - e.sides) e.sides at h)
 
   abbrev pub after_output : ℕ → Bool → ℕ → List ℕ → LaidLeft
   after_output ins run io h = let w = sides_laid io run h in laid_left (laid_as ins io w.answer) w.cells
@@ -52,7 +48,7 @@ module _ (marks nums : List ℕ) (e : JobEnds) where
 
 abbrev pub simplified_sides : ℕ → Bool → List ℕ → RestrictAnswer
 simplified_sides n true q = simplify_cells (n / 2) q
-simplified_sides n false q = restrict_answer Full q
+simplified_sides n false q = restrict_answer (Err Over) q
 
 abbrev pub copied_sides : ℕ → CopyAnswer → RestrictAnswer
 copied_sides n w = simplified_sides n w.done w.cells

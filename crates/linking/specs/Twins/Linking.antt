@@ -1,5 +1,5 @@
 -- Linking as it goes over stored tokens: what the functions of the code come to.
--- proofs/ProgramLaws.antt: where a program stands in the tokens, it stands linked in the code (specs/twins/Linked.antt).
+-- proofs/ProgramLaws.antt: where a program stands in the tokens, it stands linked in the code (specs/Twins/Linked.antt).
 use Rattle.std.specs.Prelude.{ℕ, zero, suc, ◌+◌, ◌-◌, ◌*◌, ◌/◌, ◌%◌, min, Bool, false, cond, List, eqb, ltb, length, get_or, set, replicate}
 use Rattle.linking.specs.declared.code.Link.{Link}
 use Rattle.linking.specs.Twins.Code.{link, with_link}

@@ -1,11 +1,10 @@
 -- What a `cons?` tests, over cells of any content.
-use Rattle.std.specs.Prelude.{ℕ, ◌+◌, ◌/◌, ◌%◌, min, cond, List, eqb, ltb, get_or}
+use Rattle.std.specs.Prelude.{ℕ, ◌+◌, ◌/◌, ◌%◌, min, cond, List, eqb, ltb, get_or, Option, Some, None}
 use Rattle.sets.specs.Twins.Copying.{tree_end}
 use Rattle.heap.specs.declared.configuration.Configuration.{Configuration}
 use Rattle.values.specs.Twins.Names.{names_from}
 use Rattle.values.specs.Twins.Values.{value_at}
 use Rattle.values.specs.declared.value.Valued.{Valued}
-use Rattle.values.specs.declared.value.Valued.TheVariants.{At, Over}
 use Rattle.looking.specs.declared.look.Tested.{Tested}
 use Rattle.looking.specs.declared.look.Tested.TheVariants.{Atom, Pair, Variable, Large}
 
@@ -31,9 +30,9 @@ pub record LookLeft : Type 0 where
 abbrev pub look_left : Tested → List ℕ → LookLeft
 look_left t h = record { answer = t; heap = h }
 
-abbrev pub tested_value : Valued → List ℕ → Tested
-tested_value (At from to used known) h = tested_at from to used known h
-tested_value Over h = Large
+abbrev pub tested_value : Option Valued → List ℕ → Tested
+tested_value (Some v) h = tested_at v.from v.to v.used v.known h
+tested_value None h = Large
 
 unfoldable pub look_at : List ℕ → Configuration → List ℕ → List ℕ → LookLeft
 look_at code c h f = let v = value_at code f (names_from c) c.used (test_at c) h in look_left (tested_value v.answer v.heap) v.heap

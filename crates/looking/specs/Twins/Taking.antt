@@ -1,33 +1,31 @@
 -- The branches of a `cons?` on a pair and on an atom, over cells of any content.
-use Rattle.std.specs.Prelude.{ℕ, List}
+use Rattle.std.specs.Prelude.{ℕ, List, Option, Result, Some, None, Ok, Err}
+use Rattle.restrictions.specs.declared.failure.Failure.{Failure}
+use Rattle.restrictions.specs.declared.failure.Failure.TheVariants.{Over}
 use Rattle.heap.specs.Twins.Entries.{PushAnswer, push_answer, pushed}
-use Rattle.heap.specs.declared.entry.Pushed.{Pushed}
-use Rattle.heap.specs.declared.entry.Pushed.TheVariants.{Done, Full}
 use Rattle.heap.specs.declared.configuration.Configuration.{Configuration}
-use Rattle.heap.specs.declared.configuration.Moved.{Moved}
-use Rattle.heap.specs.declared.configuration.Moved.TheVariants.{On, Over}
 use Rattle.linking.specs.Twins.Code.{link_at}
 
 unfoldable pub placed_as : Configuration → ℕ → ℕ → ℕ → ℕ → Configuration
 placed_as c entries used place counter = record { inputs = c.inputs; outputs = c.outputs; entries = entries; used = used; neqs = c.neqs; place = place; counter = counter }
 
 -- the two `e.` names, each with an entry behind those there are
-abbrev pub bound_next : ℕ → ℕ → Pushed → List ℕ → PushAnswer
-bound_next from to (Done n) f = pushed n 0 from to f
-bound_next from to Full f = push_answer Full f
+abbrev pub bound_next : ℕ → ℕ → Option ℕ → List ℕ → PushAnswer
+bound_next from to (Some n) f = pushed n 0 from to f
+bound_next from to None f = push_answer None f
 
 unfoldable pub parts_bound : ℕ → ℕ → ℕ → ℕ → List ℕ → PushAnswer
 parts_bound entries from mid to f = let w = pushed entries 0 from mid f in bound_next mid to w.answer w.frame
 
-unfoldable pub placed_with : Configuration → ℕ → ℕ → Pushed → Moved
-placed_with c used place (Done n) = On (placed_as c n used place c.counter)
-placed_with c used place Full = Over
+unfoldable pub placed_with : Configuration → ℕ → ℕ → Option ℕ → Result Configuration Failure
+placed_with c used place (Some n) = Ok (placed_as c n used place c.counter)
+placed_with c used place None = Err Over
 
 pub record Taken : Type 0 where
-  pub answer : Moved
+  pub answer : Result Configuration Failure
   pub frame : List ℕ
 
-abbrev pub taken : Moved → List ℕ → Taken
+abbrev pub taken : Result Configuration Failure → List ℕ → Taken
 taken a f = record { answer = a; frame = f }
 
 unfoldable pub pair_taken : List ℕ → Configuration → ℕ → ℕ → ℕ → ℕ → List ℕ → Taken

@@ -1,16 +1,12 @@
 -- Reading moves on.
-use Rattle.std.specs.Prelude.{◌≤◌, ◌<◌}
-use Rattle.brackets.specs.declared.place.Read.{Read}
-use Rattle.brackets.specs.declared.place.Read.TheVariants.{On, Broken}
+use Rattle.std.specs.Prelude.{◌≤◌, ◌<◌, Result, IfOk}
+use Rattle.brackets.specs.declared.place.Broken.{Broken}
+use Rattle.brackets.specs.declared.place.Place.{Place}
 
--- what is read lies behind the place before, and a broken line stays broken
-abbrev pub Behind : Read → Read → Type 0
-Behind (On p) (On r) = p.at ≤ r.at
-Behind (Broken x) (On r) = ⊥
-Behind a (Broken at) = Unit {0}
+-- what is read lies behind the place before
+abbrev pub Behind : Place → Result Place Broken → Type 0
+Behind p r = IfOk r (λ n. p.at ≤ n.at)
 
 -- and takes a byte at least
-abbrev pub Onward : Read → Read → Type 0
-Onward (On p) (On r) = p.at < r.at
-Onward (Broken x) (On r) = ⊥
-Onward a (Broken at) = Unit {0}
+abbrev pub Onward : Place → Result Place Broken → Type 0
+Onward p r = IfOk r (λ n. p.at < n.at)

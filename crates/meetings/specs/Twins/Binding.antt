@@ -1,15 +1,13 @@
 -- One binding, for cells of any content.
-use Rattle.std.specs.Prelude.{ℕ, ◌+◌, List, get_or}
+use Rattle.std.specs.Prelude.{ℕ, ◌+◌, List, get_or, Result, Ok, Err}
+use Rattle.std.specs.declared.ops.ControlFlow.TheVariants.{Break}
+use Rattle.restrictions.specs.declared.failure.Failure.{Failure}
+use Rattle.restrictions.specs.declared.failure.Failure.TheVariants.{Contradiction}
 use Rattle.restrictions.specs.Twins.Restricting.{RestrictAnswer}
-use Rattle.restrictions.specs.declared.restriction.Restricted.{Restricted}
-use Rattle.restrictions.specs.declared.restriction.Restricted.TheVariants.{Kept, Contradiction, Full}
 use Rattle.heap.specs.Twins.Contracted.{Stores, contracted_entries}
 use Rattle.heap.specs.Twins.Moving.{bound_restriction}
-use Rattle.meetings.specs.Twins.Classes.{output_entry, with_neqs, grown_by}
+use Rattle.meetings.specs.Twins.Classes.{Step, output_entry, with_neqs, grown_by}
 use Rattle.meetings.specs.declared.class.Class.{Class}
-use Rattle.meetings.specs.declared.class.Met.TheVariants.{Apart}
-use Rattle.meetings.specs.declared.class.Step.{Step}
-use Rattle.meetings.specs.declared.class.Step.TheVariants.{End}
 
 -- an answer, and what is left in heap and frame
 pub record Bound : Type 0 where
@@ -39,10 +37,9 @@ step_left s h f q = record { step = s; heap = h; frame = f; q = q }
 abbrev pub bound_beside : List ℕ → Bound → StepLeft
 bound_beside q w = step_left w.step w.heap w.frame q
 
-abbrev pub bound_after : Class → ℕ → ℕ → ℕ → List ℕ → List ℕ → Restricted → List ℕ → StepLeft
-bound_after c var from to h f (Kept n) q = bound_beside q (entries_bound (with_neqs c n) var from to h f)
-bound_after c var from to h f Contradiction q = step_left (End Apart) h f q
-bound_after c var from to h f Full q = step_left (End Apart) h f q
+abbrev pub bound_after : Class → ℕ → ℕ → ℕ → List ℕ → List ℕ → Result ℕ Failure → List ℕ → StepLeft
+bound_after c var from to h f (Ok n) q = bound_beside q (entries_bound (with_neqs c n) var from to h f)
+bound_after c var from to h f (Err e) q = step_left (Break (Err Contradiction)) h f q
 
 abbrev pub bound_from : Class → ℕ → ℕ → ℕ → List ℕ → List ℕ → RestrictAnswer → StepLeft
 bound_from c var from to h f w = bound_after c var from to h f w.answer w.cells

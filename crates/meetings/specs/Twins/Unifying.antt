@@ -1,17 +1,15 @@
 -- The unifier, for cells of any content.
-use Rattle.std.specs.Prelude.{ℕ, zero, suc, ◌+◌, cond, List, leb, ltb}
+use Rattle.std.specs.Prelude.{ℕ, zero, suc, ◌+◌, cond, List, leb, ltb, Ok, Err}
+use Rattle.std.specs.declared.ops.ControlFlow.TheVariants.{Continue, Break}
+use Rattle.restrictions.specs.declared.failure.Failure.TheVariants.{Contradiction, Over}
 use Rattle.compaction.specs.Twins.Compacting.{Compaction, compacted}
 use Rattle.meetings.specs.Twins.Differing.{leftmost_in}
-use Rattle.meetings.specs.Twins.Classes.{place_in, output_entry, wanted_entry, class_nodes, with_used, bindings_in}
+use Rattle.meetings.specs.Twins.Classes.{Met, Step, place_in, output_entry, wanted_entry, class_nodes, with_used, bindings_in}
 use Rattle.meetings.specs.Twins.Binding.{StepLeft, step_left, variable_bound}
 use Rattle.meetings.specs.declared.difference.Disagreement.{Disagreement}
 use Rattle.meetings.specs.declared.difference.Disagreement.TheVariants.{Same, Apart as Differ, Bind}
 use Rattle.meetings.specs.declared.class.Class.{Class}
 use Rattle.meetings.specs.declared.class.Place.{Place}
-use Rattle.meetings.specs.declared.class.Met.{Met}
-use Rattle.meetings.specs.declared.class.Met.TheVariants.{Common, Apart, Over}
-use Rattle.meetings.specs.declared.class.Step.{Step}
-use Rattle.meetings.specs.declared.class.Step.TheVariants.{On, End}
 
 abbrev pub between_places : Place → Place → List ℕ → Disagreement
 between_places w u h = leftmost_in w.from w.to u.from u.to h
@@ -20,8 +18,8 @@ abbrev pub disagreement_in : Class → List ℕ → List ℕ → Disagreement
 disagreement_in c h f = between_places (place_in (wanted_entry c) f) (place_in (output_entry c) f) h
 
 abbrev pub unified_by : Class → List ℕ → List ℕ → List ℕ → Disagreement → StepLeft
-unified_by c h f q Same = step_left (End (Common c)) h f q
-unified_by c h f q Differ = step_left (End Apart) h f q
+unified_by c h f q Same = step_left (Break (Ok c)) h f q
+unified_by c h f q Differ = step_left (Break (Err Contradiction)) h f q
 unified_by c h f q (Bind var from to) = variable_bound c var from to h f q
 
 unfoldable pub unify_stepped : Class → List ℕ → List ℕ → List ℕ → StepLeft
@@ -60,17 +58,17 @@ abbrev pub met_left : Met → List ℕ → List ℕ → List ℕ → MetLeft
 met_left m h f q = record { met = m; heap = h; frame = f; q = q }
 
 abbrev pub on_step : (Class → List ℕ → List ℕ → List ℕ → MetLeft) → Step → List ℕ → List ℕ → List ℕ → MetLeft
-on_step again (On c) h f q = again c h f q
-on_step again (End m) h f q = met_left m h f q
+on_step again (Continue c) h f q = again c h f q
+on_step again (Break m) h f q = met_left m h f q
 
 abbrev pub on_step_from : (Class → List ℕ → List ℕ → List ℕ → MetLeft) → StepLeft → MetLeft
 on_step_from again w = on_step again w.step w.heap w.frame w.q
 
 -- at most the given number of disagreements
 unfoldable pub unified_many : ℕ → Class → List ℕ → List ℕ → List ℕ → MetLeft
-unified_many zero c h f q = met_left Apart h f q
+unified_many zero c h f q = met_left (Err Contradiction) h f q
 unified_many (suc n) c h f q = on_step_from (unified_many n) (unify_turned c h f q)
 
 -- "21 .. at the start of an intersection or after a binding"
 unfoldable pub unified : Class → List ℕ → List ℕ → List ℕ → MetLeft
-unified c h f q = cond (ltb 4096 (class_nodes c f)) (met_left Over h f q) (unified_many (bindings_in c f) c h f q)
+unified c h f q = cond (ltb 4096 (class_nodes c f)) (met_left (Err Over) h f q) (unified_many (bindings_in c f) c h f q)

@@ -1,8 +1,7 @@
 -- Positions by value: what each function of position.rt answers.
-use Rattle.std.specs.Prelude.{ℕ, ◌+◌, min, Bool, true, false, cond, leb}
+use Rattle.std.specs.Prelude.{ℕ, ◌+◌, min, Bool, true, false, cond, leb, Result, Ok, Err}
+use Rattle.restrictions.specs.declared.failure.Failure.{Failure}
 use Rattle.heap.specs.declared.configuration.Configuration.{Configuration}
-use Rattle.heap.specs.declared.configuration.Moved.{Moved}
-use Rattle.heap.specs.declared.configuration.Moved.TheVariants.{On, Contradiction, Over}
 use Rattle.saving.specs.declared.head.Node.{Node}
 use Rattle.saving.specs.declared.saved.Back.{Back}
 use Rattle.positions.specs.declared.position.Position.{Position}
@@ -20,10 +19,9 @@ abbrev pub moved_from : Position → Configuration → Bool → Position
 moved_from p c true = record { node = node_of c (min p.node.steps 65535 + 1) (min p.node.depth 65535 + 1); top = p.top }
 moved_from p c false = record { node = node_of c (min p.node.steps 65535 + 1) p.node.depth; top = p.top }
 
-abbrev pub after_step : Position → Moved → Bool → Position
-after_step p (On c) decided = moved_from p c decided
-after_step p Contradiction decided = p
-after_step p Over decided = p
+abbrev pub after_step : Position → Result Configuration Failure → Bool → Position
+after_step p (Ok c) decided = moved_from p c decided
+after_step p (Err e) decided = p
 
 abbrev pub kept_top : ℕ → ℕ → ℕ → ℕ
 kept_top from top base = cond (leb top base) base from

@@ -1,17 +1,14 @@
 -- The text of a listing, from the two texts, the answer and the answer storage of `resolve::list`.
-use Rattle.std.specs.Prelude.{ℕ, ◌*◌, Bool, true, false, cond, List, take, replicate}
+use Rattle.std.specs.Prelude.{ℕ, ◌*◌, Bool, true, false, cond, Option, Some, None, Result, Ok, Err, List, take, replicate}
 use Rattle.listing.specs.Text.{print_refusal, list_text, sampled_text}
 use Rattle.reading.specs.Twins.BothCells.{BothAnswer, both_over}
 use Rattle.reading.specs.declared.both.Both.{Both}
-use Rattle.reading.specs.declared.both.Both.TheVariants.{Accepted, Program as OfProgram, Job as OfJob, Short as TooShort}
+use Rattle.refusals.specs.declared.refusal.Refused.{Refused}
 use Rattle.layout.specs.Twins.Laying.{job_laid}
-use Rattle.layout.specs.declared.job.Laid.{Laid}
-use Rattle.layout.specs.declared.job.Laid.TheVariants.{Done, Over}
-use Rattle.answers.specs.Headings.{heading_of}
-use Rattle.answers.specs.declared.list.Answer.{Answer}
+use Rattle.layout.specs.declared.job.Parts.{Parts}
+use Rattle.answers.specs.Headings.{Heading, heading_of}
+use Rattle.answers.specs.ListNumbers.{Answer}
 use Rattle.answers.specs.declared.list.Word.{Word}
-use Rattle.answers.specs.declared.heading.Heading.{Heading}
-use Rattle.answers.specs.declared.heading.Heading.TheVariants.{Listing, Refusal}
 use Rattle.print.specs.declared.list.Terms.{Terms}
 use Rattle.samples.specs.Twins.Naming.{name_table}
 use Rattle.window.specs.Windows.{Printed}
@@ -28,16 +25,14 @@ terms_left z h = record { sizes = z; terms = h }
 abbrev pub terms_of : Bool → ℕ → ℕ → List ℕ → TermsLeft
 terms_of samples symbols cells h = terms_left (record { symbols = symbols; cells = cells; samples = samples }) h
 
-abbrev pub laid_terms : Bool → ℕ → List ℕ → Laid → TermsLeft
-laid_terms samples symbols h (Done z) = terms_of samples symbols z.io h
-laid_terms samples symbols h Over = terms_of samples symbols 0 h
+abbrev pub laid_terms : Bool → ℕ → List ℕ → Option Parts → TermsLeft
+laid_terms samples symbols h (Some z) = terms_of samples symbols z.io h
+laid_terms samples symbols h None = terms_of samples symbols 0 h
 
 -- the job's inputs and output in cells, and how many symbols the texts have
-abbrev pub job_terms : Bool → Both → List ℕ → List ℕ → List ℕ → TermsLeft
-job_terms samples (Accepted count symbols e k) jmarks jnums h = let w = job_laid jmarks jnums e false h in laid_terms samples symbols w.heap w.answer
-job_terms samples (OfProgram number offset) jmarks jnums h = terms_of samples 0 0 h
-job_terms samples (OfJob number offset) jmarks jnums h = terms_of samples 0 0 h
-job_terms samples TooShort jmarks jnums h = terms_of samples 0 0 h
+abbrev pub job_terms : Bool → Result Both Refused → List ℕ → List ℕ → List ℕ → TermsLeft
+job_terms samples (Ok both) jmarks jnums h = let w = job_laid jmarks jnums both.parts false h in laid_terms samples both.symbols w.heap w.answer
+job_terms samples (Err r) jmarks jnums h = terms_of samples 0 0 h
 
 -- a listing, by the table of the names and the cells of the job's inputs and output
 abbrev pub table_listing : List ℕ → List ℕ → List ℕ → TermsLeft → List ℕ → Word → ℕ → ℕ → List ℕ
@@ -60,8 +55,8 @@ named_listing samples program job = read_listing samples program job (both_over 
 
 -- the text that begins so
 abbrev pub headed_text : (Word → ℕ → ℕ → List ℕ) → Heading → List ℕ
-headed_text listing (Listing first) = listing first.word first.lines first.count
-headed_text listing (Refusal letter number offset) = print_refusal letter number offset
+headed_text listing (Ok first) = listing first.word first.lines first.count
+headed_text listing (Err line) = print_refusal line.letter line.number line.offset
 
 -- what is printed of a listing and left in a window of n bytes
 pub record SaidOut (n : ℕ) (program job symbols : List ℕ) (t : TermsLeft) (cells : List ℕ) (answer : Answer) (bytes : ℕ) (page : List ℕ) : Type 0 where

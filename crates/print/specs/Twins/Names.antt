@@ -1,18 +1,16 @@
 -- The symbols of two texts, read again: how many there are, and their table.
-use Rattle.std.specs.Prelude.{ℕ, Bool, List, replicate}
+use Rattle.std.specs.Prelude.{ℕ, Bool, Result, Ok, Err, List, replicate}
 use Rattle.reading.specs.Twins.BothCells.{both_read}
 use Rattle.reading.specs.declared.both.Both.{Both}
-use Rattle.reading.specs.declared.both.Both.TheVariants.{Accepted, Program, Job, Short}
+use Rattle.refusals.specs.declared.refusal.Refused.{Refused}
 
 pub record Names : Type 0 where
   pub found : ℕ
   pub symbols : List ℕ
 
-abbrev pub found_in : Both → ℕ
-found_in (Accepted count k e n) = k
-found_in (Program number offset) = 0
-found_in (Job number offset) = 0
-found_in Short = 0
+abbrev pub found_in : Result Both Refused → ℕ
+found_in (Ok both) = both.symbols
+found_in (Err r) = 0
 
 unfoldable pub text_names : Bool → List ℕ → List ℕ → List ℕ → Names
 text_names runs program job symbols =

@@ -1,5 +1,5 @@
 -- Both texts read into cells: what each function of both.rt answers and leaves.
-use Rattle.std.specs.Prelude.{ℕ, ◌≡◌, Bool, false, cond, List, ltb, length, replicate}
+use Rattle.std.specs.Prelude.{ℕ, ◌≡◌, Bool, false, cond, List, ltb, length, replicate, Result, Ok, Err}
 use Rattle.checker.specs.Twins.StoredAt.{key_at}
 use Rattle.checker.specs.Twins.CheckAt.{no_defs}
 use Rattle.checker.specs.Twins.CheckStored.{defs_at}
@@ -9,17 +9,30 @@ use Rattle.syntax.specs.Twins.PartEnds.{part_ends, job_numerals}
 use Rattle.lent.specs.Storage.{roomy}
 use Rattle.texts.specs.Twins.ReadCells.{program_reading, job_cells}
 use Rattle.lent.specs.declared.read.Read.{Read}
-use Rattle.lent.specs.declared.read.Read.TheVariants.{Accepted, Refused, Short as ReadShort}
+use Rattle.lent.specs.declared.read.Unread.{Unread}
+use Rattle.lent.specs.declared.read.Unread.TheVariants.{Refused as Rejected, Short as Shorter}
+use Rattle.refusals.specs.declared.refusal.Refused.{Refused}
+use Rattle.refusals.specs.declared.refusal.Refused.TheVariants.{Program, Job, Short}
 use Rattle.reading.specs.declared.both.Both.{Both}
-use Rattle.reading.specs.declared.both.Both.TheVariants.{Accepted as Taken, Program, Job, Short}
+
+-- a refusal falls on the program's text, or on the job's
+abbrev pub in_program : Result Read Unread → Result Read Refused
+in_program (Ok r) = Ok r
+in_program (Err (Rejected r)) = Err (Program r)
+in_program (Err Shorter) = Err Short
+
+abbrev pub in_job : Result Read Unread → Result Read Refused
+in_job (Ok r) = Ok r
+in_job (Err (Rejected r)) = Err (Job r)
+in_job (Err Shorter) = Err Short
 
 -- where the parts of an accepted program and job stand
 pub record PlacedAnswer : Type 0 where
-  pub texts : Both
+  pub texts : Result Both Refused
   pub ends : List ℕ
   pub heads : List ℕ
 
-pub record PlacedOut (r : Both) (ends heads : List ℕ) (w : PlacedAnswer) : Type 0 where
+pub record PlacedOut (r : Result Both Refused) (ends heads : List ℕ) (w : PlacedAnswer) : Type 0 where
   pub answer : r ≡ w.texts
   pub ends_out : ends ≡ w.ends
   pub heads_out : heads ≡ w.heads
@@ -28,7 +41,7 @@ unfoldable pub placed_job : List ℕ → List ℕ → List ℕ → ℕ → List 
 placed_job marks nums ats n heads job jmarks jats m k =
     let ds = defs_at marks nums ats n 64 no_defs in
     let e = part_ends (key_at jmarks m) m in
-    record { texts = Taken ds.count k e (job_numerals job jats m e.neqs); ends = ends_from (key_at marks n) n n 0 ats; heads = heads_from ds.heads ds.count 0 heads }
+    record { texts = Ok (record { count = ds.count; symbols = k; parts = e; numerals = job_numerals job jats m e.neqs }); ends = ends_from (key_at marks n) n n 0 ats; heads = heads_from ds.heads ds.count 0 heads }
 
 -- the job, behind an accepted program
 pub record JobAnswer : Type 0 where
@@ -38,22 +51,21 @@ pub record JobAnswer : Type 0 where
   pub symbols : List ℕ
   pub work : List ℕ
 
-pub record JobOut (r : Both) (ends heads jmarks jnums symbols work : List ℕ) (w : JobAnswer) : Type 0 where
+pub record JobOut (r : Result Both Refused) (ends heads jmarks jnums symbols work : List ℕ) (w : JobAnswer) : Type 0 where
   pub placed : PlacedOut r ends heads w.placed
   pub marks_out : jmarks ≡ w.jmarks
   pub nums_out : jnums ≡ w.jnums
   pub symbols_out : symbols ≡ w.symbols
   pub work_out : work ≡ w.work
 
-abbrev pub after_job : (ℕ → ℕ → PlacedAnswer) → List ℕ → List ℕ → Read → PlacedAnswer
-after_job f ats heads (Accepted m k) = f m k
-after_job f ats heads (Refused number offset) = record { texts = Job number offset; ends = ats; heads = heads }
-after_job f ats heads ReadShort = record { texts = Short; ends = ats; heads = heads }
+abbrev pub after_job : (ℕ → ℕ → PlacedAnswer) → List ℕ → List ℕ → Result Read Refused → PlacedAnswer
+after_job f ats heads (Ok r) = f r.tokens r.symbols
+after_job f ats heads (Err e) = record { texts = Err e; ends = ats; heads = heads }
 
 unfoldable pub job_behind : Bool → List ℕ → List ℕ → List ℕ → List ℕ → ℕ → List ℕ → ℕ → List ℕ → List ℕ → List ℕ → List ℕ → List ℕ → JobAnswer
 job_behind runs program marks nums ats n symbols k heads job jmarks jnums work =
     let w = job_cells runs program marks n job jmarks jnums (replicate 4097 0) symbols k work in
-    record { placed = after_job (placed_job marks nums ats n heads job w.marks w.ats) ats heads w.answer; jmarks = w.marks; jnums = w.nums; symbols = w.symbols; work = w.names }
+    record { placed = after_job (placed_job marks nums ats n heads job w.marks w.ats) ats heads (in_job w.answer); jmarks = w.marks; jnums = w.nums; symbols = w.symbols; work = w.names }
 
 -- both texts
 pub record BothAnswer : Type 0 where
@@ -62,13 +74,12 @@ pub record BothAnswer : Type 0 where
   pub job : JobAnswer
 
 -- the storages as they are where no job is read
-abbrev pub without : Both → List ℕ → List ℕ → List ℕ → List ℕ → List ℕ → List ℕ → JobAnswer
+abbrev pub without : Result Both Refused → List ℕ → List ℕ → List ℕ → List ℕ → List ℕ → List ℕ → JobAnswer
 without r ats heads jmarks jnums symbols work = record { placed = record { texts = r; ends = ats; heads = heads }; jmarks = jmarks; jnums = jnums; symbols = symbols; work = work }
 
-abbrev pub after_program : (ℕ → ℕ → JobAnswer) → (Both → JobAnswer) → Read → JobAnswer
-after_program f g (Accepted n k) = f n k
-after_program f g (Refused number offset) = g (Program number offset)
-after_program f g ReadShort = g Short
+abbrev pub after_program : (ℕ → ℕ → JobAnswer) → (Result Both Refused → JobAnswer) → Result Read Refused → JobAnswer
+after_program f g (Ok r) = f r.tokens r.symbols
+after_program f g (Err e) = g (Err e)
 
 unfoldable pub program_first : Bool → List ℕ → List ℕ → List ℕ → List ℕ → List ℕ → List ℕ → List ℕ → List ℕ → List ℕ → List ℕ → BothAnswer
 program_first runs program job marks nums ends heads jmarks jnums symbols work =
@@ -76,10 +87,10 @@ program_first runs program job marks nums ends heads jmarks jnums symbols work =
     record {
       marks = w.marks;
       nums = w.nums;
-      job = after_program (λ n k. job_behind runs program w.marks w.nums w.ats n w.symbols k heads job jmarks jnums w.names) (λ r. without r w.ats heads jmarks jnums w.symbols w.names) w.answer;
+      job = after_program (λ n k. job_behind runs program w.marks w.nums w.ats n w.symbols k heads job jmarks jnums w.names) (λ r. without r w.ats heads jmarks jnums w.symbols w.names) (in_program w.answer);
     }
 
-pub record BothOut (r : Both) (marks nums ends heads jmarks jnums symbols work : List ℕ) (w : BothAnswer) : Type 0 where
+pub record BothOut (r : Result Both Refused) (marks nums ends heads jmarks jnums symbols work : List ℕ) (w : BothAnswer) : Type 0 where
   pub marks_out : marks ≡ w.marks
   pub nums_out : nums ≡ w.nums
   pub job : JobOut r ends heads jmarks jnums symbols work w.job
@@ -92,7 +103,7 @@ both_roomy marks nums ends heads jmarks jnums symbols work =
 unfoldable pub both_read : Bool → List ℕ → List ℕ → List ℕ → List ℕ → List ℕ → List ℕ → List ℕ → List ℕ → List ℕ → List ℕ → BothAnswer
 both_read runs program job marks nums ends heads jmarks jnums symbols work =
     cond (both_roomy marks nums ends heads jmarks jnums symbols work) (program_first runs program job marks nums ends heads jmarks jnums symbols work)
-    (record { marks = marks; nums = nums; job = without Short ends heads jmarks jnums symbols work })
+    (record { marks = marks; nums = nums; job = without (Err Short) ends heads jmarks jnums symbols work })
 
 -- over storages of nought, but for `work`
 abbrev pub both_over : Bool → List ℕ → List ℕ → List ℕ → BothAnswer

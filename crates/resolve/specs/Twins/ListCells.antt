@@ -1,5 +1,5 @@
 -- Listing two texts in cells: what each function of list.rt answers and leaves.
-use Rattle.std.specs.Prelude.{ℕ, ◌≡◌, Bool, false, List, replicate}
+use Rattle.std.specs.Prelude.{ℕ, ◌≡◌, Bool, false, List, Result, Ok, Err, replicate}
 use Rattle.lent.specs.Storage.{zeros}
 use Rattle.syntax.specs.declared.job_ends.JobEnds.{JobEnds}
 use Rattle.syntax.specs.declared.numerals.Numerals.{Numerals}
@@ -12,10 +12,10 @@ use Rattle.turns.specs.declared.found.Walked.{Walked}
 use Rattle.resolve.specs.ListAnswer.{ListLeft}
 use Rattle.reading.specs.Twins.BothCells.{BothAnswer, both_over}
 use Rattle.reading.specs.declared.both.Both.{Both}
-use Rattle.reading.specs.declared.both.Both.TheVariants.{Accepted, Program as OfProgram, Job as OfJob, Short as TooShort}
+use Rattle.refusals.specs.declared.refusal.Refused.{Refused}
 use Rattle.answers.specs.ListEnding.{unstopped_as}
-use Rattle.answers.specs.declared.list.Answer.{Answer}
-use Rattle.answers.specs.declared.list.Answer.TheVariants.{Listed, Program, Job, Short}
+use Rattle.answers.specs.ListNumbers.{Answer}
+use Rattle.answers.specs.declared.list.Listed.{Listed}
 use Rattle.answers.specs.declared.list.Word.{Word}
 use Rattle.answers.specs.declared.list.Word.TheVariants.{Stop21, Stop22, Stop23}
 
@@ -25,8 +25,8 @@ ended_as Over cut = Stop21
 ended_as Full cut = Stop22
 ended_as Spent cut = Stop23
 
-abbrev pub came_to : Walked → Answer
-came_to w = Listed (ended_as w.ending w.found.cut) w.found.lines.count w.found.count
+abbrev pub came_to : Walked → Listed
+came_to w = record { word = ended_as w.ending w.found.cut; lines = w.found.lines.count; count = w.found.count }
 
 abbrev pub ListOut : Answer → List ℕ → List ℕ → ListLeft → Type 0
 ListOut r work d w = (r ≡ w.answer) × (work ≡ w.work) × (d ≡ w.cells)
@@ -40,18 +40,16 @@ abbrev pub read_left : Answer → List ℕ → ReadLeft
 read_left r d = record { answer = r; cells = d }
 
 -- the walk of accepted texts, whose parts stand in the storages, or a refusal
-abbrev pub after_both : (ℕ → JobEnds → Numerals → JobLeft) → List ℕ → Both → ReadLeft
-after_both f d (Accepted c n e k) = let w = f c e k in read_left (came_to w.walked) w.answer
-after_both f d (OfProgram number offset) = read_left (Program number offset) d
-after_both f d (OfJob number offset) = read_left (Job number offset) d
-after_both f d TooShort = read_left Short d
+abbrev pub after_both : (ℕ → JobEnds → Numerals → JobLeft) → List ℕ → Result Both Refused → ReadLeft
+after_both f d (Ok b) = let w = f b.count b.parts b.numerals in read_left (Ok (came_to w.walked)) w.answer
+after_both f d (Err r) = read_left (Err r) d
 
 -- a program of c definitions, linked, and a job
 abbrev pub walked_texts : List ℕ → List ℕ → List ℕ → List ℕ → List ℕ → List ℕ → List ℕ → ℕ → JobEnds → Numerals → JobLeft
 walked_texts marks nums ends heads jmarks jnums a c e k = walk_job (program_linked marks nums ends heads c (replicate 24582 0)) (program_end ends heads c) (main_body marks heads) jmarks jnums e k a
 
 -- both texts as they were read
-unfoldable pub listed_read : Both → List ℕ → List ℕ → List ℕ → List ℕ → List ℕ → List ℕ → List ℕ → ReadLeft
+unfoldable pub listed_read : Result Both Refused → List ℕ → List ℕ → List ℕ → List ℕ → List ℕ → List ℕ → List ℕ → ReadLeft
 listed_read both marks nums ends heads jmarks jnums d = after_both (walked_texts marks nums ends heads jmarks jnums (zeros d)) d both
 
 abbrev pub with_work : List ℕ → ReadLeft → ListLeft

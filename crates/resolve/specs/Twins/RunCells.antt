@@ -1,37 +1,27 @@
 -- Running two texts forwards in cells: what each function of run.rt answers and leaves.
-use Rattle.std.specs.Prelude.{ℕ, ◌≡◌, true, List, replicate}
+use Rattle.std.specs.Prelude.{ℕ, ◌≡◌, true, List, Result, Ok, Err, replicate}
 use Rattle.lent.specs.Storage.{zeros}
 use Rattle.syntax.specs.declared.job_ends.JobEnds.{JobEnds}
 use Rattle.syntax.specs.declared.numerals.Numerals.{Numerals}
 use Rattle.linking.specs.Twins.Linking.{program_linked}
 use Rattle.running.specs.Twins.Answers.{RanAnswer}
 use Rattle.forward.specs.Twins.Running.{run_inputs}
-use Rattle.running.specs.declared.ran.Ran.{Ran}
-use Rattle.running.specs.declared.ran.Ran.TheVariants.{Value as RanValue, Over as RanOver, NotWithin as RanNotWithin}
 use Rattle.resolve.specs.RunAnswer.{RunLeft}
 use Rattle.reading.specs.Twins.BothCells.{BothAnswer, both_over}
 use Rattle.reading.specs.declared.both.Both.{Both}
-use Rattle.reading.specs.declared.both.Both.TheVariants.{Accepted, Program as OfProgram, Job as OfJob, Short as TooShort}
-use Rattle.run_answers.specs.declared.run.Answer.{Answer}
-use Rattle.run_answers.specs.declared.run.Answer.TheVariants.{Value, Over, NotWithin, Program, Job, Short}
-
-abbrev pub answer_ran : Ran → Answer
-answer_ran (RanValue s n) = Value s n
-answer_ran RanOver = Over
-answer_ran RanNotWithin = NotWithin
+use Rattle.refusals.specs.declared.refusal.Refused.{Refused}
+use Rattle.run_answers.specs.RunNumbers.{Answer}
 
 abbrev pub RunOut : Answer → List ℕ → List ℕ → RunLeft → Type 0
 RunOut r work d w = (r ≡ w.answer) × (work ≡ w.work) × (d ≡ w.cells)
 
 abbrev pub ran_left : List ℕ → RanAnswer → RunLeft
-ran_left work w = record { answer = answer_ran w.ran; work = work; cells = w.answer }
+ran_left work w = record { answer = Ok w.ran; work = work; cells = w.answer }
 
 -- the run of accepted texts, whose parts stand in the storages, or a refusal
-abbrev pub after_both : (ℕ → JobEnds → Numerals → RanAnswer) → List ℕ → List ℕ → Both → RunLeft
-after_both f work d (Accepted c n e k) = ran_left work (f c e k)
-after_both f work d (OfProgram number offset) = record { answer = Program number offset; work = work; cells = d }
-after_both f work d (OfJob number offset) = record { answer = Job number offset; work = work; cells = d }
-after_both f work d TooShort = record { answer = Short; work = work; cells = d }
+abbrev pub after_both : (ℕ → JobEnds → Numerals → RanAnswer) → List ℕ → List ℕ → Result Both Refused → RunLeft
+after_both f work d (Ok b) = ran_left work (f b.count b.parts b.numerals)
+after_both f work d (Err r) = record { answer = Err r; work = work; cells = d }
 
 -- a program of c definitions, linked, and a job's inputs
 abbrev pub ran_texts : List ℕ → List ℕ → List ℕ → List ℕ → List ℕ → List ℕ → List ℕ → ℕ → JobEnds → Numerals → RanAnswer

@@ -1,10 +1,8 @@
 -- What a run comes to: what each function of ran.rt answers and leaves.
-use Rattle.std.specs.Prelude.{ℕ, Bool, List, ltb}
+use Rattle.std.specs.Prelude.{ℕ, List, Option, Some, None}
 use Rattle.lent.specs.Storage.{zeros}
-use Rattle.sets.specs.declared.fill.Filled.{Filled}
-use Rattle.sets.specs.declared.fill.Filled.TheVariants.{Done, Over as FilledOver}
-use Rattle.running.specs.declared.ran.Ran.{Ran}
-use Rattle.running.specs.declared.ran.Ran.TheVariants.{Value, Over, NotWithin}
+use Rattle.run_answers.specs.declared.run.Ran.{Ran}
+use Rattle.run_answers.specs.declared.run.Ran.TheVariants.{Value, Over, NotWithin}
 
 -- what a run comes to, and the answer storage
 pub record RanAnswer : Type 0 where
@@ -14,12 +12,9 @@ pub record RanAnswer : Type 0 where
 abbrev pub ran_answer : Ran → List ℕ → RanAnswer
 ran_answer r d = record { ran = r; answer = d }
 
-abbrev pub is_within : ℕ → ℕ → Bool
-is_within k steps = ltb k steps
-
-abbrev pub ran_by : ℕ → Filled → Ran
-ran_by steps (Done n) = Value steps n
-ran_by steps FilledOver = Over
+abbrev pub ran_by : ℕ → Option ℕ → Ran
+ran_by steps (Some n) = Value steps n
+ran_by steps None = Over
 
 -- "It stops only with 21 or `not within N`, and then its answer storage is zero"
 abbrev pub settled_ran : Ran → List ℕ → RanAnswer

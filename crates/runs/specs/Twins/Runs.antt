@@ -1,5 +1,5 @@
 -- Runs of a heap, and what is written behind them, for cells of any content. Nothing here asks for a length.
-use Rattle.std.specs.Prelude.{ℕ, zero, suc, ◌+◌, ◌-◌, ◌%◌, min, Bool, true, false, cond, not, List, [], ◌∷◌, eqb, ltb, leb, get_or}
+use Rattle.std.specs.Prelude.{ℕ, zero, suc, ◌+◌, ◌-◌, ◌%◌, min, Bool, true, false, cond, not, List, [], ◌∷◌, eqb, ltb, leb, get_or, length, take, drop, Option, Some, None}
 use Rattle.std.proofs.lemmas.List.Edits.{sets}
 use Rattle.codes.specs.Twins.Outcomes.{unmoved}
 use Rattle.codes.specs.declared.outcome.Replaced.{Replaced}
@@ -7,8 +7,6 @@ use Rattle.codes.specs.declared.outcome.Replaced.TheVariants.{Done as ReplacedDo
 use Rattle.sets.specs.Twins.Copying.{any_cell}
 use Rattle.sets.specs.Cells.{pair_code}
 use Rattle.sets.specs.Twins.Fill.{FillAnswer, fill_answer, spread}
-use Rattle.sets.specs.declared.fill.Filled.{Filled}
-use Rattle.sets.specs.declared.fill.Filled.TheVariants.{Done, Over}
 use Rattle.runs.specs.declared.run.Seen.{Seen}
 
 -- n cells from a place on
@@ -19,9 +17,6 @@ cells_at (suc n) i h = get_or h i 0 ∷ cells_at n (i + 1) h
 -- the cells from one place up to another
 abbrev pub run : ℕ → ℕ → List ℕ → List ℕ
 run from to h = cells_at (to - from) from h
-
-abbrev pub stands_in_run : ℕ → ℕ → ℕ → List ℕ → Bool
-stands_in_run from to x h = any_cell x (run from to h)
 
 -- how often x stands in cells
 unfoldable pub count_in : ℕ → List ℕ → ℕ
@@ -36,18 +31,19 @@ any_variable (c ∷ s) = cond (ltb (c % 4) 2) (any_variable s) true
 abbrev pub seen_in : ℕ → List ℕ → Seen
 seen_in x s = record { count = count_in x s; variables = any_variable s }
 
--- the first place of x among n cells, and the place behind them where there is none
-unfoldable pub first_in : ℕ → ℕ → ℕ → List ℕ → ℕ
-first_in x zero i h = i
-first_in x (suc n) i h = cond (eqb (get_or h i 0) x) i (first_in x n (i + 1) h)
+-- one place further
+abbrev pub further : Option ℕ → Option ℕ
+further (Some n) = Some (suc n)
+further None = None
 
--- whether the next n cells are there and x stands in none
-abbrev pub lacks_next : ℕ → ℕ → ℕ → ℕ → List ℕ → Bool
-lacks_next n i to x h = cond (ltb (to - i) n) false (not (stands_in_run i (i + n) x h))
+-- the first place of x in cells
+unfoldable pub first_in : ℕ → List ℕ → Option ℕ
+first_in x [] = None
+first_in x (c ∷ s) = cond (eqb c x) (Some 0) (further (first_in x s))
 
--- how many cells can be passed at once
-abbrev pub passed_at : ℕ → ℕ → ℕ → List ℕ → ℕ
-passed_at i to x h = cond (lacks_next 64 i to x h) 64 (cond (lacks_next 8 i to x h) 8 0)
+-- whether the n cells from a place on are there and x stands in none
+abbrev pub lacks_next : ℕ → ℕ → ℕ → List ℕ → Bool
+lacks_next n i x s = cond (ltb (length s - i) n) false (not (any_cell x (take n (drop i s))))
 
 -- as many cells as there are when each x becomes `size` cells
 unfoldable pub spread_size : ℕ → ℕ → List ℕ → ℕ
@@ -56,7 +52,7 @@ spread_size x size (c ∷ s) = cond (eqb c x) size 1 + spread_size x size s
 
 -- cells written at `used`, if they fit
 unfoldable pub written : ℕ → ℕ → List ℕ → List ℕ → FillAnswer
-written used n w h = cond (leb (used + n) 65535) (fill_answer (Done (used + n)) (sets h used w)) (fill_answer Over h)
+written used n w h = cond (leb (used + n) 65535) (fill_answer (Some (used + n)) (sets h used w)) (fill_answer None h)
 
 -- a run, as far as it lies below `used`
 abbrev pub appended : ℕ → ℕ → ℕ → List ℕ → FillAnswer
@@ -68,9 +64,9 @@ appended_filled from to x vfrom vto used h =
     written used (spread_size x (min vto used - vfrom) (run from (min to used) h))
     (spread x (run vfrom (min vto used) h) (run from (min to used) h)) h
 
-abbrev pub moved_by : Filled → Replaced
-moved_by (Done k) = ReplacedDone k
-moved_by Over = ReplacedOver
+abbrev pub moved_by : Option ℕ → Replaced
+moved_by (Some k) = ReplacedDone k
+moved_by None = ReplacedOver
 
 pub record ReplaceAnswer : Type 0 where
   pub answer : Replaced

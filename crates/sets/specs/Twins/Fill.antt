@@ -1,13 +1,12 @@
 -- Filling cells: what they become, and what `rename` does, cell by cell.
-use Rattle.std.specs.Prelude.{ℕ, zero, suc, cond, List, [], ◌∷◌, ◌++◌, eqb}
-use Rattle.sets.specs.declared.fill.Filled.{Filled}
+use Rattle.std.specs.Prelude.{ℕ, zero, suc, cond, List, [], ◌∷◌, ◌++◌, eqb, Option}
 
 -- an answer, and the storage that was filled
 pub record FillAnswer : Type 0 where
-  pub answer : Filled
+  pub answer : Option ℕ
   pub cells : List ℕ
 
-abbrev pub fill_answer : Filled → List ℕ → FillAnswer
+abbrev pub fill_answer : Option ℕ → List ℕ → FillAnswer
 fill_answer a d = record { answer = a; cells = d }
 
 -- what the cells become: each x the cells v

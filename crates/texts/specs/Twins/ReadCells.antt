@@ -1,5 +1,5 @@
 -- What reading and checking a text comes to in storage: the answer, and what each storage holds afterwards.
-use Rattle.std.specs.Prelude.{ℕ, ◌≡◌, Bool, true, false, List, []}
+use Rattle.std.specs.Prelude.{ℕ, ◌≡◌, Bool, true, false, List, [], Result, Ok, Err}
 use Rattle.language.specs.Reader.{Res, ok, refused}
 use Rattle.language.specs.Source.{SProg}
 use Rattle.language.specs.Tokens.{symbols_of}
@@ -9,23 +9,24 @@ use Rattle.syntax.specs.Twins.ReadAnswer.{program_judged, job_judged}
 use Rattle.grammar.specs.Twins.Stored as stored
 use Rattle.job_checker.specs.Twins.JobStored as job
 use Rattle.words.specs.Twins.Cutting.{bytes_at}
-use Rattle.lexer.specs.Twins.Lexed.{State, cut_from, starting}
-use Rattle.words.specs.declared.got.Got.{Got}
-use Rattle.words.specs.declared.got.Got.TheVariants.{Past, Refused}
+use Rattle.lexer.specs.Twins.Lexed.{State, Out, cut_from, starting}
+use Rattle.lexer.specs.declared.lexer.Cut.{Cut}
+use Rattle.refusals.specs.declared.refusal.Refusal.{Refusal}
 use Rattle.lent.specs.Storage.{zeros, roomy}
 use Rattle.lent.specs.declared.read.Read.{Read}
-use Rattle.lent.specs.declared.read.Read.TheVariants.{Accepted, Refused as Rejected, Short}
+use Rattle.lent.specs.declared.read.Unread.{Unread}
+use Rattle.lent.specs.declared.read.Unread.TheVariants.{Refused, Short}
 
 -- an answer, and what is left in the five storages
 pub record ReadAnswer : Type 0 where
-  pub answer : Read
+  pub answer : Result Read Unread
   pub marks : List ℕ
   pub nums : List ℕ
   pub ats : List ℕ
   pub symbols : List ℕ
   pub names : List ℕ
 
-pub record ReadOut (r : Read) (marks nums ats symbols names : List ℕ) (w : ReadAnswer) : Type 0 where
+pub record ReadOut (r : Result Read Unread) (marks nums ats symbols names : List ℕ) (w : ReadAnswer) : Type 0 where
   pub answer : r ≡ w.answer
   pub marks_out : marks ≡ w.marks
   pub nums_out : nums ≡ w.nums
@@ -35,12 +36,12 @@ pub record ReadOut (r : Read) (marks nums ats symbols names : List ℕ) (w : Rea
 
 -- "20 ... nothing touched"
 abbrev pub untouched : List ℕ → List ℕ → List ℕ → List ℕ → List ℕ → ReadAnswer
-untouched marks nums ats symbols names = record { answer = Short; marks = marks; nums = nums; ats = ats; symbols = symbols; names = names }
+untouched marks nums ats symbols names = record { answer = Err Short; marks = marks; nums = nums; ats = ats; symbols = symbols; names = names }
 
 -- a refusal leaves nothing behind
-abbrev pub cleared : ℕ → ℕ → List ℕ → List ℕ → List ℕ → List ℕ → List ℕ → ReadAnswer
-cleared number offset marks nums ats symbols names = record {
-  answer = Rejected number offset;
+abbrev pub cleared : Refusal → List ℕ → List ℕ → List ℕ → List ℕ → List ℕ → ReadAnswer
+cleared r marks nums ats symbols names = record {
+  answer = Err (Refused r);
   marks = zeros marks;
   nums = zeros nums;
   ats = zeros ats;
@@ -50,15 +51,25 @@ cleared number offset marks nums ats symbols names = record {
 
 -- the tokens of an accepted text, and its symbols
 abbrev pub kept : State → ReadAnswer
-kept s = record { answer = Accepted s.i s.found; marks = s.marks; nums = s.nums; ats = s.ats; symbols = s.symbols; names = zeros s.names }
+kept s = record { answer = Ok (record { tokens = s.i; symbols = s.found }); marks = s.marks; nums = s.nums; ats = s.ats; symbols = s.symbols; names = zeros s.names }
 
-abbrev pub after_cut : State → Got → ReadAnswer
-after_cut s (Refused number offset) = cleared number offset s.marks s.nums s.ats s.symbols s.names
-after_cut s (Past k) = kept s
+-- the tokens of a text, of which the cutting leaves s, or why it is refused: g is what the bytes, the grammar and the check find
+pub record FoundOut (r : Result Cut Refusal) (marks nums ats symbols names : List ℕ) (g : Result ℕ Refusal) (s : State) : Type 0 where
+  pub kept : (cut : Cut) → r ≡ Ok cut → ((k : ℕ) × (g ≡ Ok k)) × Out cut marks nums ats symbols names s
+  pub refused : (f : Refusal) → r ≡ Err f → g ≡ Err f
 
-abbrev pub after_bytes : Got → List ℕ → List ℕ → List ℕ → List ℕ → List ℕ → ReadAnswer → ReadAnswer
-after_bytes (Refused number offset) marks nums ats symbols names w = cleared number offset marks nums ats symbols names
-after_bytes (Past k) marks nums ats symbols names w = w
+-- what is answered and left behind them
+abbrev pub settled : Result Cut Refusal → List ℕ → List ℕ → List ℕ → List ℕ → List ℕ → ReadAnswer
+settled (Ok cut) marks nums ats symbols names = record { answer = Ok (record { tokens = cut.tokens; symbols = cut.symbols }); marks = marks; nums = nums; ats = ats; symbols = symbols; names = zeros names }
+settled (Err r) marks nums ats symbols names = cleared r marks nums ats symbols names
+
+abbrev pub after_cut : State → Result ℕ Refusal → ReadAnswer
+after_cut s (Err r) = cleared r s.marks s.nums s.ats s.symbols s.names
+after_cut s (Ok k) = kept s
+
+abbrev pub after_bytes : Result ℕ Refusal → List ℕ → List ℕ → List ℕ → List ℕ → List ℕ → ReadAnswer → ReadAnswer
+after_bytes (Err r) marks nums ats symbols names w = cleared r marks nums ats symbols names
+after_bytes (Ok k) marks nums ats symbols names w = w
 
 abbrev pub if_roomy : Bool → List ℕ → List ℕ → List ℕ → List ℕ → List ℕ → ReadAnswer → ReadAnswer
 if_roomy true marks nums ats symbols names w = w
@@ -90,7 +101,7 @@ job_cells runs program main m text marks nums ats symbols before names =
 -- The same by what the text is read as (crate language): kept where it is accepted, cleared where it is refused.
 abbrev pub read_as : {A : Type 0} → Res A → List ℕ → List ℕ → List ℕ → List ℕ → List ℕ → State → ReadAnswer
 read_as (ok a) marks nums ats symbols names s = kept s
-read_as (refused r) marks nums ats symbols names s = cleared r.number r.at marks nums ats symbols names
+read_as (refused r) marks nums ats symbols names s = cleared (record { number = r.number; offset = r.at }) marks nums ats symbols names
 
 unfoldable pub program_reading : List ℕ → List ℕ → List ℕ → List ℕ → List ℕ → List ℕ → ReadAnswer
 unfolding read_program cut_from

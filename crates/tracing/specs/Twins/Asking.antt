@@ -1,9 +1,9 @@
 -- What a term asks, the branches there are and the transitions, over cells of any content.
-use Rattle.std.specs.Prelude.{ℕ, Bool, true, false, cond, List, eqb}
+use Rattle.std.specs.Prelude.{ℕ, Bool, true, false, cond, List, eqb, Err}
+use Rattle.restrictions.specs.declared.failure.Failure.TheVariants.{Over}
 use Rattle.heap.specs.Twins.Moving.{Move, Left, left}
 use Rattle.heap.specs.declared.configuration.Branches.{Branches}
 use Rattle.heap.specs.declared.configuration.Configuration.{Configuration}
-use Rattle.heap.specs.declared.configuration.Moved.TheVariants.{Over}
 use Rattle.linking.specs.Twins.Code.{link_at}
 use Rattle.calls.specs.Twins.Calls.{called_to}
 use Rattle.values.specs.Twins.Names.{names_from}
@@ -56,13 +56,13 @@ abbrev pub beside : List ℕ → Move → Left
 beside q w = left w.answer w.heap w.frame q
 
 abbrev pub true_taken : List ℕ → Configuration → Asked → List ℕ → List ℕ → List ℕ → Left
-true_taken code c End h f q = left Over h f q
+true_taken code c End h f q = left (Err Over) h f q
 true_taken code c Call h f q = beside q (called_to code (names_from c) c h f)
 true_taken code c (Same x y) h f q = equal_taken code c x y h f q
 true_taken code c (Test t) h f q = beside q (tested_true code c t h f)
 
 abbrev pub false_taken : List ℕ → Configuration → Asked → List ℕ → List ℕ → List ℕ → Left
-false_taken code c End h f q = left Over h f q
+false_taken code c End h f q = left (Err Over) h f q
 false_taken code c Call h f q = beside q (called_to code (names_from c) c h f)
 false_taken code c (Same x y) h f q = unequal_taken code c x y h f q
 false_taken code c (Test t) h f q = beside q (tested_false code c t h f)

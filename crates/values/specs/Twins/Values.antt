@@ -1,15 +1,12 @@
 -- The values of expressions over cells of any content.
-use Rattle.std.specs.Prelude.{ℕ, zero, suc, ◌+◌, ◌-◌, ◌*◌, min, cond, List, [], ◌∷◌, eqb, ltb, leb}
+use Rattle.std.specs.Prelude.{ℕ, zero, suc, ◌+◌, ◌-◌, ◌*◌, min, cond, List, [], ◌∷◌, eqb, ltb, leb, Option, Some, None}
 use Rattle.sets.specs.Twins.Fill.{FillAnswer, fill_answer}
-use Rattle.sets.specs.declared.fill.Filled.{Filled}
-use Rattle.sets.specs.declared.fill.Filled.TheVariants.{Done, Over as FilledOver}
 use Rattle.runs.specs.Twins.Runs.{written, appended}
 use Rattle.heap.specs.Twins.Entries.{entry_known, entry_from, entry_to}
 use Rattle.linking.specs.Twins.Code.{link_at}
 use Rattle.constants.specs.Twins.Table.{constant_at}
 use Rattle.values.specs.declared.tokens.Place.{Place}
 use Rattle.values.specs.declared.value.Valued.{Valued}
-use Rattle.values.specs.declared.value.Valued.TheVariants.{At, Over}
 
 -- where an entry's value stands, and what is known of it; nothing past the last entry
 unfoldable pub entry_at : List ℕ → ℕ → Place
@@ -19,9 +16,9 @@ abbrev pub place_at : ℕ → ℕ → ℕ
 place_at base place = min base 4120 + place
 
 -- on from an answer
-abbrev pub onward_fill : (ℕ → List ℕ → FillAnswer) → Filled → List ℕ → FillAnswer
-onward_fill again (Done k) h = again k h
-onward_fill again FilledOver h = fill_answer FilledOver h
+abbrev pub onward_fill : (ℕ → List ℕ → FillAnswer) → Option ℕ → List ℕ → FillAnswer
+onward_fill again (Some k) h = again k h
+onward_fill again None h = fill_answer None h
 
 module _ (code frame : List ℕ) (base : ℕ) where
   -- the cells of a token, at k
@@ -29,23 +26,27 @@ module _ (code frame : List ℕ) (base : ℕ) where
   token_written j k h =
       let l = link_at code j in
       let e = entry_at frame (place_at base l.first) in
-      cond (eqb l.mark 1) (written k 1 (l.first ∷ []) h) (cond (eqb l.mark 2) (appended e.from e.to k h) (fill_answer (Done k) h))
+      cond (eqb l.mark 1) (written k 1 (l.first ∷ []) h) (cond (eqb l.mark 2) (appended e.from e.to k h) (fill_answer (Some k) h))
 
   -- those of `left` tokens from j on
   unfoldable pub tokens_written : ℕ → ℕ → ℕ → List ℕ → FillAnswer
-  tokens_written zero j k h = fill_answer (Done k) h
+  tokens_written zero j k h = fill_answer (Some k) h
   tokens_written (suc left) j k h = let w = token_written j k h in onward_fill (λ m g. tokens_written left (j + 1) m g) w.answer w.cells
 
 pub record ValueLeft : Type 0 where
-  pub answer : Valued
+  pub answer : Option Valued
   pub heap : List ℕ
 
-abbrev pub value_left : Valued → List ℕ → ValueLeft
+abbrev pub value_left : Option Valued → List ℕ → ValueLeft
 value_left a h = record { answer = a; heap = h }
 
-abbrev pub made_at : ℕ → ℕ → Filled → Valued
-made_at used known (Done k) = At used k k known
-made_at used known FilledOver = Over
+-- a range, what is used with it, and what is known of it
+abbrev pub valued : ℕ → ℕ → ℕ → ℕ → Valued
+valued from to used known = record { from = from; to = to; used = used; known = known }
+
+abbrev pub made_at : ℕ → ℕ → Option ℕ → Option Valued
+made_at used known (Some k) = Some (valued used k k known)
+made_at used known None = None
 
 -- the token behind the head of the `cons` at i, which begins two tokens on
 abbrev pub head_end_at : List ℕ → ℕ → ℕ → ℕ
@@ -56,9 +57,9 @@ abbrev pub known_pair : ℕ → ℕ
 known_pair n = cond (ltb n 32768) (2 * (n - 1)) 0
 
 -- what is known of a pair, of which so much is written when its head is
-abbrev pub known_head : ℕ → Filled → ℕ
-known_head used (Done k) = known_pair (k - used)
-known_head used FilledOver = 0
+abbrev pub known_head : ℕ → Option ℕ → ℕ
+known_head used (Some k) = known_pair (k - used)
+known_head used None = 0
 
 -- what the tokens from i up to `past` make: a `cons` has more than two of them
 unfoldable pub made_of : List ℕ → List ℕ → ℕ → ℕ → ℕ → ℕ → List ℕ → ValueLeft
@@ -73,5 +74,5 @@ value_at code frame base used i h =
     let l = link_at code i in
     let e = entry_at frame (place_at base l.first) in
     let k = constant_at code i in
-    cond (eqb l.mark 2) (value_left (At e.from e.to used e.known) h)
-    (cond (ltb k.from k.to) (value_left (At k.from k.to used 0) h) (made_of code frame base used i l.past h))
+    cond (eqb l.mark 2) (value_left (Some (valued e.from e.to used e.known)) h)
+    (cond (ltb k.from k.to) (value_left (Some (valued k.from k.to used 0)) h) (made_of code frame base used i l.past h))

@@ -1,12 +1,12 @@
 -- The walk of a job: what each function of job.rt answers and leaves.
-use Rattle.std.specs.Prelude.{ℕ, false, cond, List, eqb, replicate}
+use Rattle.std.specs.Prelude.{ℕ, false, cond, List, eqb, replicate, Result, Ok, Err}
+use Rattle.restrictions.specs.declared.failure.Failure.{Failure}
+use Rattle.restrictions.specs.declared.failure.Failure.TheVariants.{Contradiction, Over as BegunOver}
 use Rattle.syntax.specs.declared.job_ends.JobEnds.{JobEnds}
 use Rattle.syntax.specs.declared.numerals.Numerals.{Numerals}
 use Rattle.heap.specs.declared.configuration.Configuration.{Configuration}
 use Rattle.values.specs.Twins.Sizes.{kept_nodes}
 use Rattle.initial.specs.Twins.Beginning.{BegunLeft, begun_at}
-use Rattle.initial.specs.declared.begin.Begun.{Begun}
-use Rattle.initial.specs.declared.begin.Begun.TheVariants.{On, None, Over as BegunOver}
 use Rattle.saving.specs.Twins.Saving.{SaveLeft, saved_to}
 use Rattle.saving.specs.declared.head.Node.{Node}
 use Rattle.constants.specs.Twins.Laying.{constants_laid}
@@ -49,20 +49,20 @@ walk_begun code c k h f q a =
     cond (is_over (kept_nodes c.entries c.neqs f)) (job_left (walked Over nothing_found) a)
     (cond (eqb k.steps 0) (job_left (walked Done (cut_off nothing_found)) a) (cond (eqb k.walk 0) (job_left (walked Spent nothing_found) a) (walk_first code c k h f q a)))
 
-abbrev pub on_begun : List ℕ → ℕ → Numerals → List ℕ → BegunLeft → Begun → JobLeft
-on_begun code count k a w (On c) = let l = constants_laid count c.used code w.heap in walk_begun l.code (with_used c l.used) k l.heap w.frame w.q a
-on_begun code count k a w None = job_left (walked Done nothing_found) a
-on_begun code count k a w BegunOver = job_left (walked Over nothing_found) a
+abbrev pub on_begun : List ℕ → ℕ → Numerals → List ℕ → BegunLeft → Result Configuration Failure → JobLeft
+on_begun code count k a w (Ok c) = let l = constants_laid count c.used code w.heap in walk_begun l.code (with_used c l.used) k l.heap w.frame w.q a
+on_begun code count k a w (Err Contradiction) = job_left (walked Done nothing_found) a
+on_begun code count k a w (Err BegunOver) = job_left (walked Over nothing_found) a
 
 unfoldable pub walk_job : List ℕ → ℕ → ℕ → List ℕ → List ℕ → JobEnds → Numerals → List ℕ → JobLeft
 walk_job code count body jmarks jnums parts k a =
     let w = begun_at body jmarks jnums parts false (replicate 65535 0) (replicate 12360 0) (replicate 4096 0) in on_begun code count k a w w.answer
 
 -- where the constants stand: in the program as it was, unless the walk begins
-abbrev pub code_begun : List ℕ → ℕ → BegunLeft → Begun → List ℕ
-code_begun code count w (On c) = (constants_laid count c.used code w.heap).code
-code_begun code count w None = code
-code_begun code count w BegunOver = code
+abbrev pub code_begun : List ℕ → ℕ → BegunLeft → Result Configuration Failure → List ℕ
+code_begun code count w (Ok c) = (constants_laid count c.used code w.heap).code
+code_begun code count w (Err Contradiction) = code
+code_begun code count w (Err BegunOver) = code
 
 unfoldable pub code_laid : List ℕ → ℕ → ℕ → List ℕ → List ℕ → JobEnds → List ℕ
 code_laid code count body jmarks jnums parts =

@@ -1,10 +1,9 @@
 -- A transition made: what each function of make.rt answers and leaves.
-use Rattle.std.specs.Prelude.{ℕ, Bool, cond, List}
+use Rattle.std.specs.Prelude.{ℕ, Bool, cond, List, Result, Ok, Err}
+use Rattle.restrictions.specs.declared.failure.Failure.{Failure}
 use Rattle.heap.specs.Twins.Moving.{Move, Left, left}
 use Rattle.heap.specs.declared.configuration.Branches.{Branches}
 use Rattle.heap.specs.declared.configuration.Configuration.{Configuration}
-use Rattle.heap.specs.declared.configuration.Moved.{Moved}
-use Rattle.heap.specs.declared.configuration.Moved.TheVariants.{On as MovedOn, Contradiction, Over as MovedOver}
 use Rattle.values.specs.Twins.Names.{names_from}
 use Rattle.values.specs.Twins.Sizes.{sized_as}
 use Rattle.calls.specs.Twins.Calls.{called_to}
@@ -16,16 +15,14 @@ use Rattle.replay.specs.Twins.Replaying.{saved_if}
 use Rattle.positions.specs.declared.position.Position.{Position}
 use Rattle.positions.specs.declared.position.Bounds.{Bounds}
 use Rattle.turns.specs.Twins.Choices.{is_both, first_branch, is_spent}
-use Rattle.turns.specs.Twins.States.{state_at, after_move}
+use Rattle.turns.specs.Twins.Finding.{walked}
+use Rattle.turns.specs.Twins.States.{Turn, state_at, after_move}
 use Rattle.turns.specs.declared.found.Ending.TheVariants.{Spent}
 use Rattle.turns.specs.declared.state.State.{State}
-use Rattle.turns.specs.declared.state.Turn.{Turn}
-use Rattle.turns.specs.declared.state.Turn.TheVariants.{Stop}
 
-abbrev pub sized_move : Moved → List ℕ → Moved
-sized_move (MovedOn c) f = sized_as c f
-sized_move Contradiction f = Contradiction
-sized_move MovedOver f = MovedOver
+abbrev pub sized_move : Result Configuration Failure → List ℕ → Result Configuration Failure
+sized_move (Ok c) f = sized_as c f
+sized_move (Err e) f = Err e
 
 abbrev pub sized_left : Left → Left
 sized_left w = left (sized_move w.answer w.frame) w.heap w.frame w.q
@@ -48,7 +45,7 @@ behind_call s w = called_left (after_move s (sized_move w.answer w.frame)) w.hea
 unfoldable pub made_call : List ℕ → State → ℕ → List ℕ → List ℕ → CalledLeft
 made_call code s walk h f =
     let c = s.at.node.at in
-    cond (is_spent walk s.found) (called_left (Stop Spent s.found) h f) (behind_call s (called_to code (names_from c) c h f))
+    cond (is_spent walk s.found) (called_left (Err (walked Spent s.found)) h f) (behind_call s (called_to code (names_from c) c h f))
 
 -- a position, and what is left of the path and of what is saved
 pub record ChoiceLeft : Type 0 where
@@ -83,7 +80,7 @@ behind_move s path saved w = branch_left (after_move s w.answer) w.heap w.frame 
 -- the transition from s by a branch of what it asks: "23 a transition would be number W+1"
 unfoldable pub branch_taken : List ℕ → ℕ → State → Asked → Bool → List ℕ → List ℕ → List ℕ → List ℕ → List ℕ → BranchLeft
 branch_taken code walk s a taken h f q path saved =
-    cond (is_spent walk s.found) (branch_left (Stop Spent s.found) h f q path saved) (behind_move s path saved (moved_on code s.at.node.at a taken h f q))
+    cond (is_spent walk s.found) (branch_left (Err (walked Spent s.found)) h f q path saved) (behind_move s path saved (moved_on code s.at.node.at a taken h f q))
 
 abbrev pub choice_taken : List ℕ → ℕ → State → AskLeft → Branches → List ℕ → List ℕ → ChoiceLeft → BranchLeft
 choice_taken code walk s a w f q k = branch_taken code walk (state_at k.position s.found) a.asked (first_branch w) a.heap f q k.path k.saved

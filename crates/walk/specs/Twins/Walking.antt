@@ -1,12 +1,12 @@
 -- The walk over cells: what each function of walk.rt answers and leaves.
-use Rattle.std.specs.Prelude.{ℕ, zero, suc, ◌+◌, min, List}
+use Rattle.std.specs.Prelude.{ℕ, zero, suc, ◌+◌, min, List, Ok, Err}
 use Rattle.linking.specs.Twins.Code.{link_at}
 use Rattle.saving.specs.declared.head.Node.{Node}
 use Rattle.replay.specs.Twins.Rooms.{RoomLeft, made_room}
 use Rattle.positions.specs.declared.position.Bounds.{Bounds}
 use Rattle.turns.specs.Twins.Finding.{walked}
 use Rattle.turns.specs.Twins.Choices.{way_on}
-use Rattle.turns.specs.Twins.States.{state_at}
+use Rattle.turns.specs.Twins.States.{Turn, state_at}
 use Rattle.walk.specs.Twins.Making.{CalledLeft, made_call, made_choice}
 use Rattle.walk.specs.Twins.Backing.{TurnLeft, turn_left, beside_answer, turned_back}
 use Rattle.turns.specs.declared.choice.Way.{Way}
@@ -15,8 +15,6 @@ use Rattle.turns.specs.declared.found.Ending.TheVariants.{Spent}
 use Rattle.turns.specs.declared.found.Found.{Found}
 use Rattle.turns.specs.declared.found.Walked.{Walked}
 use Rattle.turns.specs.declared.state.State.{State}
-use Rattle.turns.specs.declared.state.Turn.{Turn}
-use Rattle.turns.specs.declared.state.Turn.TheVariants.{On, Stop}
 
 abbrev pub way_at : List ℕ → Bounds → Node → Way
 way_at code b n = way_on (link_at code n.at.place).mark b n
@@ -49,8 +47,8 @@ abbrev pub walked_left : Walked → List ℕ → List ℕ → List ℕ → List 
 walked_left r h f q p s a = record { walked = r; heap = h; frame = f; q = q; path = p; saved = s; answer = a }
 
 abbrev pub after_turn : (State → List ℕ → List ℕ → List ℕ → List ℕ → List ℕ → List ℕ → WalkedLeft) → TurnLeft → Turn → WalkedLeft
-after_turn again w (On s) = again s w.heap w.frame w.q w.path w.saved w.answer
-after_turn again w (Stop e g) = walked_left (walked e g) w.heap w.frame w.q w.path w.saved w.answer
+after_turn again w (Ok s) = again s w.heap w.frame w.q w.path w.saved w.answer
+after_turn again w (Err r) = walked_left r w.heap w.frame w.q w.path w.saved w.answer
 
 -- `left` turns more
 unfoldable pub walked_from : List ℕ → Bounds → ℕ → State → List ℕ → List ℕ → List ℕ → List ℕ → List ℕ → List ℕ → WalkedLeft

@@ -1,10 +1,10 @@
 -- A text cut into words by index: where a word begins and ends. proofs/CutByIndex.antt: these are the pieces of `cut`.
-use Rattle.std.specs.Prelude.{ℕ, ◌+◌, ◌-◌, Bool, true, false, cond, not, List, [], ◌∷◌, leb, ltb, length, take, drop, get_or}
+use Rattle.std.specs.Prelude.{ℕ, ◌+◌, ◌-◌, Bool, true, false, cond, not, List, [], ◌∷◌, leb, ltb, length, take, drop, get_or, Result, Ok}
 use Rattle.language.specs.Bytes.{Byte, blank, bracket, digit, letter, mark, outside, byte_kind, is_blank, is_digit, in_name, in_word, is_outside}
 use Rattle.words.specs.declared.bytes.Byte.{Byte as CodeByte}
 use Rattle.words.specs.declared.bytes.Byte.TheVariants.{Blank, Bracket, Digit, Letter, Mark, Outside}
-use Rattle.words.specs.declared.got.Got.{Got}
-use Rattle.words.specs.declared.got.Got.TheVariants.{Past, Refused}
+use Rattle.refusals.specs.declared.refusal.Refusal.{Refusal}
+use Rattle.refusals.specs.Faults.{fault}
 
 -- the kind that the code's answer names
 abbrev pub byte_of : CodeByte → Byte
@@ -28,15 +28,15 @@ abbrev pub outside_at : List ℕ → ℕ
 outside_at text = scan_at (λ b. not (is_outside (byte_kind b))) text 0
 
 -- the text's length, or refusal 1 or 2
-abbrev pub sound_at : Bool → ℕ → Got
-sound_at true first = Refused 2 first
-sound_at false first = Past first
+abbrev pub sound_at : Bool → ℕ → Result ℕ Refusal
+sound_at true first = fault 2 first
+sound_at false first = Ok first
 
-abbrev pub short_at : Bool → ℕ → List ℕ → Got
+abbrev pub short_at : Bool → ℕ → List ℕ → Result ℕ Refusal
 short_at true limit bs = sound_at (ltb (outside_at bs) (length bs)) (outside_at bs)
-short_at false limit bs = Refused 1 limit
+short_at false limit bs = fault 1 limit
 
-abbrev pub bytes_at : ℕ → List ℕ → Got
+abbrev pub bytes_at : ℕ → List ℕ → Result ℕ Refusal
 bytes_at limit bs = short_at (leb (length bs) limit) limit bs
 
 -- the first byte that is no blank, of no word, of no name, no digit

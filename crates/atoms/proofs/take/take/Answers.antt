@@ -3,4 +3,4 @@ use Rattle.atoms.proofs.take.take.Goals as goal
 
 pub returns : goal.returns
 unfolding taken_by
-returns c = rw (← c.placed-d.ensures, ← c.contract.ensures)
+returns c = rw (← c.contract.ensures)

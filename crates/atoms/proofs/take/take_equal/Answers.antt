@@ -3,4 +3,4 @@ use Rattle.atoms.proofs.take.take_equal.Goals as goal
 
 pub returns : goal.returns
 unfolding equal_taken
-returns c = rw (← c.link_at-l.ensures, ← c.wide-place.ensures.0, ← c.equality_contraction-k.ensures, ← c.take.ensures)
+returns c = rw (← c.link_at.ensures, ← c.from-place.ensures, ← c.equality_contraction-k.ensures, ← c.take.ensures)

@@ -3,4 +3,4 @@ use Rattle.atoms.proofs.take.take_unequal.Goals as goal
 
 pub returns : goal.returns
 unfolding unequal_taken
-returns c = rw (← c.link_at-l.ensures, ← c.wide-place.ensures.0, ← c.take.ensures)
+returns c = rw (← c.link_at.ensures, ← c.from-place.ensures, ← c.take.ensures)

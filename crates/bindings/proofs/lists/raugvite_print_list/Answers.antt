@@ -1,5 +1,5 @@
 use mathlib.Core.Path.{ap, ◌∙◌, sym}
-use Rattle.answers.specs.declared.list.Answer.{Answer}
+use Rattle.answers.specs.ListNumbers.{Answer}
 use Rattle.print.specs.Twins.ListedText.{listed_text}
 use Rattle.bindings.proofs.ToldLaws.{list_told}
 use Rattle.print.proofs.ListTurns.{same_text}

@@ -1,5 +1,5 @@
 use mathlib.Core.Path.{ap, ◌∙◌, sym}
-use Rattle.run_answers.specs.declared.run.Answer.{Answer}
+use Rattle.run_answers.specs.RunNumbers.{Answer}
 use Rattle.print.specs.Twins.RanText.{ran_text}
 use Rattle.bindings.proofs.ToldLaws.{run_told}
 use Rattle.print.proofs.ListTurns.{same_text}

@@ -1,13 +1,11 @@
 use Rattle.calls.proofs.ArgumentTurns.{arguments_turn, arguments_end}
 use Rattle.calls.proofs.arguments.arguments.Goals as goal
 
-pub loop-left-preserved : goal.loop-left-preserved
-loop-left-preserved c =
-    rw (c.loop-left.invariant, arguments_turn c.loop-left-test.true, ← c.argument-a.ensures, c.in-Done.is, ← c.link_at-l.ensures)
+pub loop-preserved : goal.loop-preserved
+loop-preserved c = rw (c.loop.invariant, arguments_turn c.loop-test.true, ← c.argument.ensures, c.in_ok-a.was, ← c.link_at-l.ensures, ← c.from-j.ensures)
 
-pub returns-in-Over : goal.returns-in-Over
-returns-in-Over c =
-    rw (c.loop-left.invariant, arguments_turn c.loop-left-test.true, ← c.argument-a.ensures, c.in-Over.is)
+pub returns-in_err-a : goal.returns-in_err-a
+returns-in_err-a c = rw (c.from_residual.ensures, c.loop.invariant, arguments_turn c.loop-test.true, ← c.argument.ensures, c.in_err-a.was)
 
 pub returns : goal.returns
-returns c = rw (c.loop-left.invariant, arguments_end c.loop-left-test.false)
+returns c = rw (c.loop.invariant, arguments_end c.loop-test.false)

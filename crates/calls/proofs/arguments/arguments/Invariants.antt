@@ -1,10 +1,8 @@
+use Prim.Native.Nat.{◌-◌}
 use mathlib.Core.Path.{◌≡◌}
 use Rattle.calls.specs.Twins.Arguments.{arguments_at}
 use Rattle.calls.proofs.arguments.arguments.Given as goal
 
-abbrev pub invariant-loop-left : goal.invariant-loop-left
-invariant-loop-left l =
-    arguments_at l.code l.base l.n l.entries l.used l.nodes l.i l.initial.heap l.initial.frame ≡ arguments_at l.code l.base l.left l.e l.k l.m l.j l.heap l.frame
-
-abbrev pub decreases-loop-left : goal.decreases-loop-left
-decreases-loop-left l = l.left
+abbrev pub invariant-loop : goal.invariant-loop
+invariant-loop l =
+    arguments_at l.code l.base l.n l.fn.so_far.entries l.fn.so_far.used l.fn.so_far.nodes l.i l.initial.heap l.initial.frame ≡ arguments_at l.code l.base (l.n - l.counter) l.a.entries l.a.used l.a.nodes l.j l.heap l.frame

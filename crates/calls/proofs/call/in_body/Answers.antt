@@ -3,4 +3,4 @@ use Rattle.calls.proofs.call.in_body.Goals as goal
 
 pub returns : goal.returns
 unfolding in_body
-returns c = rw (← c.least.ensures, ← c.least-2.ensures)
+returns c = rw (← c.min.ensures, ← c.min-2.ensures)

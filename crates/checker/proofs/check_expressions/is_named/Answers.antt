@@ -1,11 +1,9 @@
-use Rattle.checker.proofs.CheckOpenings.{not_zero, is_zero, named_more, named_none}
+use mathlib.Core.Path.{◌∙◌, sym}
+use Rattle.checker.specs.Twins.StoredAt.{tag_at, num_at}
+use Rattle.checker.proofs.CheckOpenings.{named_here}
 use Rattle.checker.proofs.check_expressions.is_named.Goals as goal
 
 pub returns-then-same_name : goal.returns-then-same_name
-returns-then-same_name c = rw (c.loop-left.invariant, named_more (not_zero _ c.loop-left-test.true), ← c.index-j.ensures, ← c.same_name.ensures, c.if-same_name.true)
-
-pub loop-left-preserved : goal.loop-left-preserved
-loop-left-preserved c = rw (c.loop-left.invariant, named_more (not_zero _ c.loop-left-test.true), ← c.index-j.ensures, ← c.same_name.ensures, c.if-same_name.false)
-
-pub returns : goal.returns
-returns c = rw (c.loop-left.invariant, named_none (is_zero _ c.loop-left-test.false))
+returns-then-same_name c =
+    let a = c.args in
+    sym (named_here (tag_at a.ts.marks.now a.ts.n) (num_at a.ts.nums.now a.ts.n) a.cells.now a.used c.loop-k.k a.i c.loop-k-test.true (rw (← c.index.ensures) (sym c.same_name.ensures ∙ c.if-same_name.true)))

@@ -7,12 +7,12 @@ pub returns-then-used-floor : goal.returns-then-used-floor
 unfolding compacted
 returns-then-used-floor c = rw (lt-ltb _ _ c.if-used-floor.true)
 
-pub returns-in-Done : goal.returns-in-Done
+pub returns : goal.returns
 unfolding compacted
-returns-in-Done c =
-    rw (le-ltb _ _ c.if-used-floor.false, ← c.relocate_entries-w.ensures, c.in-Done.is, c.move_cells.ensures, c.less.ensures)
+returns c =
+    rw (le-ltb _ _ c.if-used-floor.false, ← c.relocate_entries.ensures, c.in-Some.is, c.move_cells.ensures, c.saturating_sub.ensures)
 
-pub returns-in-Over : goal.returns-in-Over
+pub returns-in_default : goal.returns-in_default
 unfolding compacted
-returns-in-Over c =
-    rw (le-ltb _ _ c.if-used-floor.false, ← c.relocate_entries-w.ensures, c.in-Over.is)
+returns-in_default c =
+    rw (le-ltb _ _ c.if-used-floor.false, ← c.relocate_entries.ensures, c.in_default.is)

@@ -1,16 +1,17 @@
-use mathlib.Core.Path.{◌∙◌}
+use Prim.Native.Nat.{◌-◌}
+use mathlib.Core.Path.{◌≡◌}
 use native.Mathlib.Omega.{arith}
-use Rattle.runs.proofs.RunLaws.{moving_start, moving_next, moving_end, less_left}
+use Rattle.runs.specs.Twins.Runs.{cells_at}
+use Rattle.runs.proofs.RunLaws.{moved_within}
 use Rattle.compaction.proofs.compact.move_cells.Goals as goal
 
-pub loop-i-init : goal.loop-i-init
-loop-i-init c = moving_start _ _ _ _ (omega arith)
+pub returns-then-from-end : goal.returns-then-from-end
+returns-then-from-end c =
+    let a = c.args in
+    rw (← c.min-end.ensures, c.copy_within.ensures.after) (moved_within a.heap.now a.from a.at (c.min-end.result - a.from) (omega arith) (omega arith))
 
-pub loop-i-smaller : goal.loop-i-smaller
-loop-i-smaller c = less_left _ _ c.loop-i-test.true
-
-pub loop-i-preserved : goal.loop-i-preserved
-loop-i-preserved c = moving_next c.loop-i.invariant c.loop-i-test.true
-
-pub returns : goal.returns
-returns c = moving_end c.loop-i.invariant c.loop-i-test.false ∙ rw (c.less-size.ensures, c.least-end.ensures)
+pub returns-else-from-end : goal.returns-else-from-end
+unfolding cells_at
+returns-else-from-end c =
+    let z : c.min-end.result - c.args.from ≡ 0 = omega arith in
+    rw (← c.min-end.ensures, z)

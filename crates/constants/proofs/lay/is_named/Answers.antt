@@ -1,11 +1,8 @@
-use mathlib.Core.Path.{refl, ap, ◌∙◌, sym as inv}
+use mathlib.Core.Path.{ap, ◌∙◌, sym as inv}
 use native.Mathlib.Omega.{arith}
 use Rattle.linking.specs.declared.code.Link.{Link}
 use Rattle.constants.proofs.LayTurns.{named_here, named_later, named_none}
 use Rattle.constants.proofs.lay.is_named.Goals as goal
-
-pub loop-j-init : goal.loop-j-init
-loop-j-init c = refl
 
 pub returns-then-l-eq-NAME : goal.returns-then-l-eq-NAME
 returns-then-l-eq-NAME c =

@@ -5,6 +5,3 @@ use Rattle.constants.proofs.lay.is_named.Given as goal
 
 abbrev pub invariant-loop-j : goal.invariant-loop-j
 invariant-loop-j l = named_in l.code (l.to - l.i) l.i ≡ named_in l.code (l.to - l.j) l.j
-
-abbrev pub decreases-loop-j : goal.decreases-loop-j
-decreases-loop-j l = l.to - l.j

@@ -4,7 +4,7 @@ use Rattle.constants.proofs.table.constant_at.Goals as goal
 
 pub returns-then-i-lt-TOKENS : goal.returns-then-i-lt-TOKENS
 unfolding constant_at
-returns-then-i-lt-TOKENS c = rw (lt-ltb _ _ c.if-i-lt-TOKENS.true, ← c.wide-then-i-lt-TOKENS.ensures.0, ← c.wide.ensures.0)
+returns-then-i-lt-TOKENS c = rw (lt-ltb _ _ c.if-i-lt-TOKENS.true, ← c.from-then-i-lt-TOKENS.ensures, ← c.from.ensures)
 
 pub returns : goal.returns
 unfolding constant_at

@@ -4,7 +4,7 @@ use Rattle.constants.proofs.table.enter.Goals as goal
 
 pub returns-then-i-lt-TOKENS : goal.returns-then-i-lt-TOKENS
 unfolding entered
-returns-then-i-lt-TOKENS c = rw (lt-ltb _ _ c.if-i-lt-TOKENS.true, ← c.narrow-a.ensures, ← c.narrow-b.ensures)
+returns-then-i-lt-TOKENS c = rw (lt-ltb _ _ c.if-i-lt-TOKENS.true, ← c.narrow.ensures, ← c.narrow-then-i-lt-TOKENS.ensures)
 
 pub returns-else-i-lt-TOKENS : goal.returns-else-i-lt-TOKENS
 unfolding entered

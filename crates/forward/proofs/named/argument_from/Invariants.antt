@@ -1,9 +1,7 @@
+use Prim.Native.Nat.{◌-◌}
 use mathlib.Core.Path.{◌≡◌}
 use Rattle.forward.specs.Twins.Naming.{argument_from}
 use Rattle.forward.proofs.named.argument_from.Given as goal
 
-abbrev pub invariant-loop-left : goal.invariant-loop-left
-invariant-loop-left l = argument_from l.code l.q l.i ≡ argument_from l.code l.left l.j
-
-abbrev pub decreases-loop-left : goal.decreases-loop-left
-decreases-loop-left l = l.left
+abbrev pub invariant-loop : goal.invariant-loop
+invariant-loop l = argument_from l.code l.q l.i ≡ argument_from l.code (l.q - l.counter) l.j

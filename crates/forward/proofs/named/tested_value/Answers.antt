@@ -4,26 +4,26 @@ use Rattle.forward.proofs.named.tested_value.Goals as goal
 
 pub returns-then-place-n : goal.returns-then-place-n
 unfolding tested_named
-returns-then-place-n c = rw (c.in-Atom.is, ← c.names_in-n.ensures, ← c.wide-place.ensures.0, lt-ltb _ _ c.if-place-n.true, ← c.own_value.ensures)
+returns-then-place-n c = rw (c.in-Atom.is, ← c.names_in-n.ensures, ← c.from-place.ensures, lt-ltb _ _ c.if-place-n.true, ← c.own_value.ensures)
 
 pub returns-then-place-n-2 : goal.returns-then-place-n-2
 unfolding tested_named
-returns-then-place-n-2 c = rw (c.in-Pair.is, ← c.names_in-n.ensures, ← c.wide-place.ensures.0, lt-ltb _ _ c.if-place-n-2.true, ← c.own_value-then-place-n-2.ensures)
+returns-then-place-n-2 c = rw (c.in-Pair.is, ← c.names_in-n.ensures, ← c.from-place.ensures, lt-ltb _ _ c.if-place-n-2.true, ← c.own_value-then-place-n-2.ensures)
 
 pub returns-then-place-n-3 : goal.returns-then-place-n-3
 unfolding tested_named
 returns-then-place-n-3 c =
-    rw (c.in-Pair.is, ← c.names_in-n.ensures, ← c.wide-place.ensures.0, le-ltb _ _ c.if-place-n-2.false, eq-eqb _ _ c.if-place-n-3.true, ← c.plain-then-place-n-3.ensures)
+    rw (c.in-Pair.is, ← c.names_in-n.ensures, ← c.from-place.ensures, le-ltb _ _ c.if-place-n-2.false, eq-eqb _ _ c.if-place-n-3.true, ← c.plain-then-place-n-3.ensures)
 
 pub returns-else-place-n : goal.returns-else-place-n
 unfolding tested_named
 returns-else-place-n c =
-    rw (c.in-Atom.is, ← c.names_in-n.ensures, ← c.wide-place.ensures.0, le-ltb _ _ c.if-place-n.false, ← c.plain.ensures)
+    rw (c.in-Atom.is, ← c.names_in-n.ensures, ← c.from-place.ensures, le-ltb _ _ c.if-place-n.false, ← c.plain.ensures)
 
 pub returns-else-place-n-3 : goal.returns-else-place-n-3
 unfolding tested_named
 returns-else-place-n-3 c =
-    rw (c.in-Pair.is, ← c.names_in-n.ensures, ← c.wide-place.ensures.0, le-ltb _ _ c.if-place-n-2.false, ne_eqb _ _ c.if-place-n-3.false, ← c.plain-in-Pair.ensures)
+    rw (c.in-Pair.is, ← c.names_in-n.ensures, ← c.from-place.ensures, le-ltb _ _ c.if-place-n-2.false, ne_eqb _ _ c.if-place-n-3.false, ← c.plain-in-Pair.ensures)
 
 pub returns-in-Variable : goal.returns-in-Variable
 unfolding tested_named

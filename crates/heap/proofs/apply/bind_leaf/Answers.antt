@@ -1,15 +1,14 @@
+use Rattle.std.proofs.lemmas.Result.{err_from_is_err_and}
 use Rattle.heap.specs.Twins.Moving.{leaf_bound}
 use Rattle.heap.proofs.apply.bind_leaf.Goals as goal
 
-pub returns-in-Kept : goal.returns-in-Kept
+pub returns-in_err-neqs : goal.returns-in_err-neqs
 unfolding leaf_bound
-returns-in-Kept c =
-    rw (← c.bind_restriction-r.ensures, c.in-Kept.is, ← c.bind_cell-w.ensures, ← c.grown.ensures)
+returns-in_err-neqs c =
+    let e = err_from_is_err_and c.from_residual.result c.from_residual.ensures.1 in
+    rw (← c.bind_restriction.ensures, c.in_err-neqs.was, e.1, e.2)
 
-pub returns-in-Contradiction : goal.returns-in-Contradiction
+pub returns : goal.returns
 unfolding leaf_bound
-returns-in-Contradiction c = rw (← c.bind_restriction-r.ensures, c.in-Contradiction.is)
-
-pub returns-in-Full : goal.returns-in-Full
-unfolding leaf_bound
-returns-in-Full c = rw (← c.bind_restriction-r.ensures, c.in-Full.is)
+returns c =
+    rw (← c.bind_restriction.ensures, c.in_ok-neqs.was, ← c.bind_cell-w.ensures, ← c.grown.ensures)

@@ -6,6 +6,3 @@ use Rattle.heap.proofs.contract.contract_entries.Given as goal
 abbrev pub invariant-loop-i : goal.invariant-loop-i
 invariant-loop-i l =
     contracted_entries l.first l.last l.x l.vfrom l.vto l.used l.initial.heap l.initial.frame ≡ contracted_from (l.end - l.i) l.i l.x l.vfrom l.vto l.now l.heap l.frame
-
-abbrev pub decreases-loop-i : goal.decreases-loop-i
-decreases-loop-i l = l.end - l.i

@@ -1,9 +1,5 @@
-use Prim.Native.Nat.{◌-◌}
-use Rattle.runs.proofs.RunLaws.{Moving}
+use Rattle.heap.proofs.MoveLaws.{Moving}
 use Rattle.heap.proofs.entry.move_down.Given as goal
 
 abbrev pub invariant-loop-i : goal.invariant-loop-i
 invariant-loop-i l = Moving l.initial.frame l.a l.b l.size l.frame l.i
-
-abbrev pub decreases-loop-i : goal.decreases-loop-i
-decreases-loop-i l = l.size - l.i

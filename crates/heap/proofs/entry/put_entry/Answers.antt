@@ -3,4 +3,4 @@ use Rattle.heap.proofs.entry.put_entry.Goals as goal
 
 pub returns : goal.returns
 unfolding entry
-returns c = rw (← c.narrow-a.ensures, ← c.narrow-b.ensures)
+returns c = rw (← c.narrow.ensures, ← c.narrow-2.ensures)

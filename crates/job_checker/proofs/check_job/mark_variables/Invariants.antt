@@ -7,7 +7,4 @@ use Rattle.job_checker.proofs.check_job.mark_variables.Given as goal
 
 abbrev pub invariant-loop-at : goal.invariant-loop-at
 invariant-loop-at l =
-    (marked_from (tag_at l.marks l.n) (num_at l.nums l.n) (l.end - l.j) l.j l.initial.marked ≡ marked_from (tag_at l.marks l.n) (num_at l.nums l.n) (l.end - l.at) l.at l.marked) × (length l.marked ≡ length l.initial.marked)
-
-abbrev pub decreases-loop-at : goal.decreases-loop-at
-decreases-loop-at l = l.end - l.at
+    (marked_from (tag_at l.ts.marks.now l.ts.n) (num_at l.ts.nums.now l.ts.n) (l.end - l.j) l.j l.initial.marked ≡ marked_from (tag_at l.ts.marks.now l.ts.n) (num_at l.ts.nums.now l.ts.n) (l.end - l.at) l.at l.marked) × (length l.marked ≡ length l.initial.marked)

@@ -1,28 +1,26 @@
+use native.Mathlib.Omega.{arith}
 use borrow.Author.Tests.{eq-eqb, ne_eqb}
 use Rattle.layout.specs.Twins.Data.{datum_cell}
 use Rattle.layout.proofs.datum.datum_cell.Goals as goal
 
 pub returns-then-key-eq-CONS : goal.returns-then-key-eq-CONS
 unfolding datum_cell
-returns-then-key-eq-CONS c =
-    rw (← c.key.ensures, eq-eqb _ _ c.if-key-eq-CONS.true)
+returns-then-key-eq-CONS c = rw (← c.key.ensures, eq-eqb _ _ c.if-key-eq-CONS.true)
 
-pub returns-then-tag-eq-SYMBOL : goal.returns-then-tag-eq-SYMBOL
+pub returns-in-0 : goal.returns-in-0
 unfolding datum_cell
-returns-then-tag-eq-SYMBOL c =
-    rw (← c.key.ensures, ne_eqb _ _ c.if-key-eq-CONS.false, ← c.kind-tag.ensures, eq-eqb _ _ c.if-tag-eq-SYMBOL.true, ← c.cell-number.ensures) c.code.ensures
+returns-in-0 c = rw (← c.key.ensures, ne_eqb _ _ c.if-key-eq-CONS.false, ← c.kind.ensures, c.in-0.is, ← c.cell-number.ensures) c.code.ensures
 
-pub returns-then-tag-eq-EVARIABLE : goal.returns-then-tag-eq-EVARIABLE
+pub returns-in-3 : goal.returns-in-3
 unfolding datum_cell
-returns-then-tag-eq-EVARIABLE c =
-    rw (← c.key.ensures, ne_eqb _ _ c.if-key-eq-CONS.false, ← c.kind-tag.ensures, ne_eqb _ _ c.if-tag-eq-SYMBOL.false, eq-eqb _ _ c.if-tag-eq-EVARIABLE.true, ← c.cell-number.ensures) c.code-then-tag-eq-EVARIABLE.ensures
+returns-in-3 c = rw (← c.key.ensures, ne_eqb _ _ c.if-key-eq-CONS.false, ← c.kind.ensures, c.in-3.is, ← c.cell-number.ensures) c.code-in-3.ensures
 
-pub returns-then-tag-eq-AVARIABLE : goal.returns-then-tag-eq-AVARIABLE
+pub returns-in-4 : goal.returns-in-4
 unfolding datum_cell
-returns-then-tag-eq-AVARIABLE c =
-    rw (← c.key.ensures, ne_eqb _ _ c.if-key-eq-CONS.false, ← c.kind-tag.ensures, ne_eqb _ _ c.if-tag-eq-SYMBOL.false, ne_eqb _ _ c.if-tag-eq-EVARIABLE.false, eq-eqb _ _ c.if-tag-eq-AVARIABLE.true, ← c.cell-number.ensures) c.code-then-tag-eq-AVARIABLE.ensures
+returns-in-4 c = rw (← c.key.ensures, ne_eqb _ _ c.if-key-eq-CONS.false, ← c.kind.ensures, c.in-4.is, ← c.cell-number.ensures) c.code-in-4.ensures
 
-pub returns : goal.returns
+pub returns-in_default : goal.returns-in_default
 unfolding datum_cell
-returns c =
-    rw (← c.key.ensures, ne_eqb _ _ c.if-key-eq-CONS.false, ← c.kind-tag.ensures, ne_eqb _ _ c.if-tag-eq-SYMBOL.false, ne_eqb _ _ c.if-tag-eq-EVARIABLE.false, ne_eqb _ _ c.if-tag-eq-AVARIABLE.false)
+returns-in_default c =
+    let k = c.kind.result in
+    rw (← c.key.ensures, ne_eqb _ _ c.if-key-eq-CONS.false, ← c.kind.ensures, ne_eqb k 0 (λ e. omega arith), ne_eqb k 3 (λ e. omega arith), ne_eqb k 4 (λ e. omega arith))

@@ -7,6 +7,3 @@ use Rattle.layout.proofs.datum.lay_data.Given as goal
 abbrev pub invariant-loop-i : goal.invariant-loop-i
 invariant-loop-i l =
     (data_written l.jmarks l.jnums (l.to - l.from) l.from l.at l.initial.heap ≡ data_written l.jmarks l.jnums (l.to - l.i) l.i l.k l.heap) × (length l.heap ≡ length l.initial.heap)
-
-abbrev pub decreases-loop-i : goal.decreases-loop-i
-decreases-loop-i l = l.to - l.i

@@ -3,12 +3,9 @@ use native.Mathlib.Omega.{arith}
 use Rattle.layout.proofs.LayoutTurns.{largest_turn, largest_end}
 use Rattle.layout.proofs.fresh.largest.Goals as goal
 
-pub loop-i-init : goal.loop-i-init
-loop-i-init c = (omega arith, rw (← c.least-count.ensures) (omega arith))
-
 pub loop-i-preserved : goal.loop-i-preserved
 loop-i-preserved c =
-    (omega (arith, c.larger-most.ensures, c.number_of.ensures.1, c.loop-i.invariant.0), c.loop-i.invariant.1 ∙ omega (arith, c.larger-most.ensures, c.number_of.ensures.0, largest_turn c.loop-i-test.true c.args.heap.now))
+    (omega (arith, c.max-most.ensures, c.number_of.ensures.1, c.loop-i.invariant.0), c.loop-i.invariant.1 ∙ omega (arith, c.max-most.ensures, c.number_of.ensures.0, largest_turn c.loop-i-test.true c.args.heap.now))
 
 pub returns : goal.returns
 returns c = (omega (arith, c.loop-i.invariant.1, largest_end c.loop-i-test.false c.args.heap.now), c.loop-i.invariant.0)

@@ -21,12 +21,6 @@ returns-then-t c =
     let e = c.loop-i.invariant.0 ∙ cut_shut a.job a.first.now a.text.now (omega arith) (state c.loop-i.marks c.loop-i.nums c.loop-i.ats c.loop-i.symbols c.loop-i.names c.loop-i.found c.loop-i.known c.loop-i.i c.loop-i.from) c.token_from-t.result c.token_from-t.ensures c.if-t.true in
     rw e (refl, refl, stored.0, stored.1, stored.2, refl, refl)
 
-pub overflow_add-i : goal.overflow_add-i
-overflow_add-i c = record { fits = omega (arith, c.loop-i-test.true) }
-
-pub loop-i-smaller : goal.loop-i-smaller
-loop-i-smaller c = omega (arith, c.loop-i-test.true)
-
 pub loop-i-preserved : goal.loop-i-preserved
 loop-i-preserved c =
     let a = c.args in
@@ -55,4 +49,4 @@ pub returns : goal.returns
 returns c =
     let a = c.args in
     let e = c.loop-i.invariant.0 ∙ cut_end a.job a.first.now a.text.now (omega arith) (state c.loop-i.marks c.loop-i.nums c.loop-i.ats c.loop-i.symbols c.loop-i.names c.loop-i.found c.loop-i.known c.loop-i.i c.loop-i.from) in
-    rw e (refl, refl, refl, refl, refl, refl, refl)
+    rw e (omega arith, refl, refl, refl, refl, refl, refl)

@@ -18,7 +18,3 @@ invariant-loop-i l =
     × Linked l.symbols l.found l.names l.known l.chains
     × (l.known ≤ l.i)
     × (length l.chains ≡ 5634)
-
-abbrev pub decreases-loop-i : goal.decreases-loop-i
-decreases-loop-i l =
-    4097 - l.i

@@ -7,6 +7,3 @@ use Rattle.lexer.proofs.table.link_all.Given as goal
 abbrev pub invariant-loop-k : goal.invariant-loop-k
 invariant-loop-k l =
     (linked_all l.base l.table l.count 0 l.initial.chains ≡ linked_all l.base l.table (l.count - l.k) l.k l.chains) × (length l.chains ≡ length l.initial.chains)
-
-abbrev pub decreases-loop-k : goal.decreases-loop-k
-decreases-loop-k l = l.count - l.k

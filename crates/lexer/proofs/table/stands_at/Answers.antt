@@ -6,5 +6,5 @@ use Rattle.lexer.proofs.table.stands_at.Goals as goal
 pub returns-then-begins : goal.returns-then-begins
 returns-then-begins c = rw (← c.word_at.ensures) c.same.ensures
 
-pub returns : goal.returns
-returns c = sym (other_word c.args.text.now c.args.at c.args.word.now (ap (begins c.args.word.now) (sym c.part.ensures) ∙ sym c.begins.ensures ∙ c.if-begins.false))
+pub returns-else-begins : goal.returns-else-begins
+returns-else-begins c = c.if-begins.false ∙ sym (other_word c.args.text.now c.args.at c.args.word.now (ap (begins c.args.word.now) (sym c.part.ensures) ∙ sym c.begins.ensures ∙ c.if-begins.false))

@@ -1,14 +1,14 @@
 use Rattle.lines.specs.Twins.Ends.{met_end}
 use Rattle.lines.proofs.end.meet_end.Goals as goal
 
-pub returns-in-Common : goal.returns-in-Common
+pub returns-in-Ok : goal.returns-in-Ok
 unfolding met_end
-returns-in-Common c = rw (← c.meet_output-m.ensures, c.in-Common.is, ← c.add_line.ensures, ← c.ended_as.ensures)
+returns-in-Ok c = rw (← c.meet_output.ensures, c.in-Ok.is, ← c.add_line.ensures, ← c.ok_or.ensures.value)
 
-pub returns-in-Apart : goal.returns-in-Apart
+pub returns-in-Err-Contradiction : goal.returns-in-Err-Contradiction
 unfolding met_end
-returns-in-Apart c = rw (← c.meet_output-m.ensures, c.in-Apart.is)
+returns-in-Err-Contradiction c = rw (← c.meet_output.ensures, c.in-Err-Contradiction.is, c.in-Err-Contradiction.field-0-is)
 
-pub returns-in-Over : goal.returns-in-Over
+pub returns-in-Err-Over : goal.returns-in-Err-Over
 unfolding met_end
-returns-in-Over c = rw (← c.meet_output-m.ensures, c.in-Over.is)
+returns-in-Err-Over c = rw (← c.meet_output.ensures, c.in-Err-Over.is, c.in-Err-Over.field-0-is)

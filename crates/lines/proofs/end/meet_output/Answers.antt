@@ -1,11 +1,10 @@
 use Rattle.lines.specs.Twins.Ends.{output_met}
 use Rattle.lines.proofs.end.meet_output.Goals as goal
 
-pub returns-in-At : goal.returns-in-At
+pub returns-in_default : goal.returns-in_default
 unfolding output_met
-returns-in-At c =
-    rw (← c.names_from-base.ensures, ← c.value-v.ensures, c.in-At.is, ← c.class_at.ensures, ← c.names_from-base.ensures, ← c.push_entry.ensures, ← c.unify.ensures)
+returns-in_default c = rw (← c.names_from-base.ensures, ← c.value.ensures, c.in_default.is)
 
-pub returns-in-Over : goal.returns-in-Over
+pub returns : goal.returns
 unfolding output_met
-returns-in-Over c = rw (← c.names_from-base.ensures, ← c.value-v.ensures, c.in-Over.is)
+returns c = rw (← c.names_from-base.ensures, ← c.value.ensures, c.in-Some.is, ← c.class_at.ensures, ← c.names_from-base.ensures, ← c.push_entry.ensures, ← c.unify.ensures)

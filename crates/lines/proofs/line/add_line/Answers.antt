@@ -14,8 +14,8 @@ overflow_add-nodes c = search rules
 
 pub returns-then-nodes-gt16384 : goal.returns-then-nodes-gt16384
 unfolding line_added
-returns-then-nodes-gt16384 c = rw (lt-leb _ _ c.if-table-l.false, ← c.least.ensures, ← c.line_nodes.ensures, lt-ltb _ _ c.if-nodes-gt16384.true)
+returns-then-nodes-gt16384 c = rw (lt-leb _ _ c.if-table-l.false, ← c.min.ensures, ← c.line_nodes.ensures, lt-ltb _ _ c.if-nodes-gt16384.true)
 
 pub returns : goal.returns
 unfolding line_added
-returns c = rw (lt-leb _ _ c.if-table-l.false, ← c.least.ensures, ← c.line_nodes.ensures, le-ltb _ _ c.if-nodes-gt16384.false, ← c.put_line-top.ensures, ← c.one_more.ensures)
+returns c = rw (lt-leb _ _ c.if-table-l.false, ← c.min.ensures, ← c.line_nodes.ensures, le-ltb _ _ c.if-nodes-gt16384.false, ← c.put_line-top.ensures, ← c.one_more.ensures)

@@ -3,4 +3,4 @@ use Rattle.lines.proofs.line.line_nodes.Goals as goal
 
 pub returns : goal.returns
 unfolding nodes_in_line
-returns c = rw (← c.nodes.ensures, ← c.least.ensures, ← c.least-2.ensures)
+returns c = rw (← c.nodes.ensures, ← c.min.ensures, ← c.min-2.ensures)

@@ -5,7 +5,4 @@ use Rattle.linking.proofs.expression.link_range.Given as goal
 
 abbrev pub invariant-loop-i : goal.invariant-loop-i
 invariant-loop-i l =
-    range_linked l.marks l.nums l.ends l.names l.used (l.to - l.from) l.from l.initial.code ≡ range_linked l.marks l.nums l.ends l.names l.used (l.to - l.i) l.i l.code
-
-abbrev pub decreases-loop-i : goal.decreases-loop-i
-decreases-loop-i l = l.to - l.i
+    range_linked l.p.marks.now l.p.nums.now l.p.ends.now l.names l.used (l.to - l.from) l.from l.initial.code ≡ range_linked l.p.marks.now l.p.nums.now l.p.ends.now l.names l.used (l.to - l.i) l.i l.code

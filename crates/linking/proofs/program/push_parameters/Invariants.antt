@@ -5,6 +5,3 @@ use Rattle.linking.proofs.program.push_parameters.Given as goal
 
 abbrev pub invariant-loop-i : goal.invariant-loop-i
 invariant-loop-i l = parameters_named (l.to - l.p) l.p 0 l.initial.names ≡ parameters_named (l.to - l.i) l.i l.used l.names
-
-abbrev pub decreases-loop-i : goal.decreases-loop-i
-decreases-loop-i l = l.to - l.i

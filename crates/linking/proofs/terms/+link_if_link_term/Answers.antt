@@ -4,7 +4,7 @@ use Rattle.linking.proofs.terms.+link_if_link_term.Goals as goal
 
 pub link_if-returns : goal.link_if-returns
 link_if-returns t c =
-    if_by _ _ _ _ _ _ _ _ _ _ c.if_link-l.ensures c.wide-yes.ensures.0 c.wide-no.ensures.0 c.on-tested.ensures c.past-h.ensures c.set_link.ensures
+    if_by _ _ _ _ _ _ _ _ _ _ c.if_link-l.ensures c.from-yes.ensures c.from-no.ensures c.on-tested.ensures c.past-h.ensures c.set_link.ensures
     c.link_range.ensures c.true_names-one.ensures c.link_term.ensures c.false_names-two.ensures c.link_term-2.ensures
 
 pub link_term-returns-then-room-eq0 : goal.link_term-returns-then-room-eq0

@@ -1,10 +1,10 @@
 use Rattle.looking.specs.Twins.Looking.{look_at}
 use Rattle.looking.proofs.look.look.Goals as goal
 
-pub returns-in-At : goal.returns-in-At
+pub returns-in-Some : goal.returns-in-Some
 unfolding look_at
-returns-in-At c = rw (← c.least-i.ensures, ← c.names_from.ensures, ← c.value-v.ensures, c.in-At.is, ← c.test_range.ensures)
+returns-in-Some c = rw (← c.min-i.ensures, ← c.names_from.ensures, ← c.value.ensures, c.in-Some.is, ← c.test_range.ensures)
 
-pub returns-in-Over : goal.returns-in-Over
+pub returns-in-None : goal.returns-in-None
 unfolding look_at
-returns-in-Over c = rw (← c.least-i.ensures, ← c.names_from.ensures, ← c.value-v.ensures, c.in-Over.is)
+returns-in-None c = rw (← c.min-i.ensures, ← c.names_from.ensures, ← c.value.ensures, c.in-None.is)

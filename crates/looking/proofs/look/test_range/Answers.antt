@@ -8,7 +8,7 @@ returns-then-from-gt65534 c = rw (lt-ltb _ _ c.if-from-gt65534.true)
 
 pub returns-then-x-eq-PAIR : goal.returns-then-x-eq-PAIR
 unfolding tested_at
-returns-then-x-eq-PAIR c = rw (le-ltb _ _ c.if-from-gt65534.false, eq-eqb _ _ c.if-x-eq-PAIR.true, ← c.head_end-end.ensures, ← c.least.ensures)
+returns-then-x-eq-PAIR c = rw (le-ltb _ _ c.if-from-gt65534.false, eq-eqb _ _ c.if-x-eq-PAIR.true, ← c.head_end-end.ensures, ← c.min.ensures)
 
 pub returns-then-x-eq2 : goal.returns-then-x-eq2
 unfolding tested_at

@@ -1,10 +1,11 @@
-use Rattle.looking.specs.Twins.Taking.{placed_with}
+use borrow.Author.Rules.{rules}
+use Rattle.looking.specs.Twins.Taking.{placed_as, placed_with}
 use Rattle.looking.proofs.take.placed_with.Goals as goal
 
-pub returns-in-Done : goal.returns-in-Done
-unfolding placed_with
-returns-in-Done c = rw (c.in-Done.is, ← c.placed.ensures)
+pub returns : goal.returns
+unfolding placed_with placed_as
+returns c = search rules
 
-pub returns-in-Full : goal.returns-in-Full
+pub returns-in_err-entries : goal.returns-in_err-entries
 unfolding placed_with
-returns-in-Full c = rw c.in-Full.is
+returns-in_err-entries c = search rules

@@ -1,15 +1,10 @@
 use Rattle.meetings.specs.Twins.Binding.{variable_bound}
 use Rattle.meetings.proofs.binding.bind.Goals as goal
 
-pub returns-in-Kept : goal.returns-in-Kept
+pub returns-in-Ok : goal.returns-in-Ok
 unfolding variable_bound
-returns-in-Kept c =
-    rw (← c.cell-code.ensures, ← c.bind_restriction-r.ensures, c.in-Kept.is, ← c.bind_entries.ensures)
+returns-in-Ok c = rw (← c.cell-code.ensures, ← c.in-Ok.ensures, ← c.bind_entries.ensures)
 
-pub returns-in-Contradiction : goal.returns-in-Contradiction
+pub returns-in-Err : goal.returns-in-Err
 unfolding variable_bound
-returns-in-Contradiction c = rw (← c.cell-code.ensures, ← c.bind_restriction-r.ensures, c.in-Contradiction.is)
-
-pub returns-in-Full : goal.returns-in-Full
-unfolding variable_bound
-returns-in-Full c = rw (← c.cell-code.ensures, ← c.bind_restriction-r.ensures, c.in-Full.is)
+returns-in-Err c = rw (← c.cell-code.ensures, ← c.in-Err.ensures)

@@ -1,27 +1,31 @@
-use Rattle.meetings.proofs.DifferenceTurns.{difference_next, difference_apart, difference_end, difference_short}
+use Prim.Native.Nat.{ℕ, ◌+◌}
+use mathlib.Core.Path.{◌≡◌, ap₂, ◌∙◌, sym as inv}
 use native.Mathlib.Omega.{arith}
-use mathlib.Core.Path.{refl, ◌∙◌, sym as inv}
+use Rattle.meetings.specs.Twins.Differing.{first_difference}
+use Rattle.meetings.proofs.DifferenceTurns.{difference_next, difference_apart, difference_over}
 use Rattle.meetings.proofs.difference.first_difference.Goals as goal
 
-pub loop-p-init : goal.loop-p-init
-loop-p-init c = refl
-
-pub returns-then-uto-k : goal.returns-then-uto-k
-returns-then-uto-k c =
+pub loop-n-init : goal.loop-n-init
+loop-n-init c =
     let a = c.args in
-    difference_short c.loop-p.p a.wto c.loop-p.k a.uto a.heap.now c.if-uto-k.true ∙ inv c.loop-p.invariant
+    ap₂ (λ (p k : ℕ). first_difference p a.wto k a.uto a.heap.now) (omega arith) (omega arith)
 
-pub returns-then-heap-p : goal.returns-then-heap-p
-returns-then-heap-p c =
+pub returns-then-heap-wfrom : goal.returns-then-heap-wfrom
+returns-then-heap-wfrom c =
     let a = c.args in
-    difference_apart c.loop-p.p a.wto c.loop-p.k a.uto a.heap.now (omega arith) (omega arith) c.if-heap-p.true ∙ inv c.loop-p.invariant
+    difference_apart (a.wfrom + c.loop-n.n) a.wto (a.ufrom + c.loop-n.n) a.uto a.heap.now (omega arith) (omega arith) c.if-heap-wfrom.true ∙ inv c.loop-n.invariant
 
-pub loop-p-preserved : goal.loop-p-preserved
-loop-p-preserved c =
+pub loop-n-preserved : goal.loop-n-preserved
+loop-n-preserved c =
     let a = c.args in
-    c.loop-p.invariant ∙ difference_next c.loop-p.p a.wto c.loop-p.k a.uto a.heap.now (omega arith) (omega arith) c.if-heap-p.false
+    let n = c.loop-n.n in
+    c.loop-n.invariant
+    ∙ difference_next (a.wfrom + n) a.wto (a.ufrom + n) a.uto a.heap.now (omega arith) (omega arith) c.if-heap-wfrom.false
+    ∙ ap₂ (λ (p k : ℕ). first_difference p a.wto k a.uto a.heap.now) (omega arith) (omega arith)
 
 pub returns : goal.returns
 returns c =
     let a = c.args in
-    difference_end c.loop-p.p a.wto c.loop-p.k a.uto a.heap.now c.loop-p-test.false ∙ inv c.loop-p.invariant
+    let n = c.loop-n.n in
+    let e : c.min-most.result ≡ n = omega arith in
+    rw e (difference_over (a.wfrom + n) a.wto (a.ufrom + n) a.uto a.heap.now (omega arith) ∙ inv c.loop-n.invariant)

@@ -3,4 +3,4 @@ use Rattle.meetings.proofs.line.put_entry.Goals as goal
 
 pub returns : goal.returns
 unfolding entry_put
-returns c = rw (← c.least-at.ensures, ← c.entry_size-n.ensures.0, ← c.entry_at-p.ensures, ← c.copy.ensures.1)
+returns c = rw (← c.min-at.ensures, ← c.entry_size-n.ensures.0, ← c.entry_at-p.ensures, ← c.copy.ensures.1)

@@ -5,7 +5,7 @@ pub returns : goal.returns
 unfolding header_put
 returns c =
     rw (
-      ← c.least-at.ensures,
+      ← c.min-at.ensures,
       ← c.narrow.ensures,
       ← c.put.ensures,
       ← c.narrow-2.ensures,

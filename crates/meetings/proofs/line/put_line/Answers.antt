@@ -11,7 +11,7 @@ returns c =
       ← c.put_header-at.ensures,
       ← c.output_entry.ensures,
       ← c.put_entries.ensures,
-      ← c.least-end.ensures,
-      ← c.least-sides.ensures,
+      ← c.min-end.ensures,
+      ← c.min-sides.ensures,
       ← c.copy.ensures.1,
     )

@@ -8,12 +8,6 @@ returns-then-taken-n-clause-taken g c = λ h.
     let e = c.write_page-taken.ensures in
     page_on _ _ _ _ _ _ _ _ _ i.1 (i.4 h).0 e.bound i.2 (i.4 h).1 e.taken
 
-pub returns-then-n-lt65536-clause-taken : goal.returns-then-n-lt65536-clause-taken
-returns-then-n-lt65536-clause-taken g c = λ h.
-    let i = c.loop-k.invariant in
-    let e = c.write_page-taken.ensures in
-    page_on _ _ _ _ _ _ _ _ _ i.1 (i.4 h).0 e.bound i.2 (i.4 h).1 e.taken
-
 pub loop-k-preserved : goal.loop-k-preserved
 loop-k-preserved g c =
     let i = c.loop-k.invariant in

@@ -1,10 +1,17 @@
+use native.Mathlib.Omega.{arith}
+use mathlib.Core.Path.{◌≡◌}
+use borrow.Author.Rules.{rules}
+use Rattle.std.specs.Prelude.{Some}
+use Rattle.looking.specs.Twins.Taking.{placed_as}
 use Rattle.pairs.specs.Twins.Splitting.{bound_contracted}
 use Rattle.pairs.proofs.split.bound_contracted.Goals as goal
 
-pub returns-in-Done : goal.returns-in-Done
-unfolding bound_contracted
-returns-in-Done c = rw (c.in-Done.is, ← c.placed-d.ensures) c.contract_all.ensures
+pub returns : goal.returns
+unfolding bound_contracted placed_as
+returns c =
+    let e : c.args.p ≡ Some c.in_ok-entries.entries = grind arith in
+    rw e c.contract_all.ensures
 
-pub returns-in-Full : goal.returns-in-Full
+pub returns-in_err-entries : goal.returns-in_err-entries
 unfolding bound_contracted
-returns-in-Full c = rw c.in-Full.is
+returns-in_err-entries c = search rules

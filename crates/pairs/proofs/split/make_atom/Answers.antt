@@ -8,4 +8,4 @@ returns-then-used-gt65534 c = rw (lt-ltb _ _ c.if-used-gt65534.true)
 
 pub returns : goal.returns
 unfolding atom_made
-returns c = rw (le-ltb _ _ c.if-used-gt65534.false, ← c.link_at-l.ensures, ← c.push_entry-p.ensures) c.bound_contracted.ensures
+returns c = rw (le-ltb _ _ c.if-used-gt65534.false, ← c.link_at.ensures, ← c.from-place.ensures, ← c.push_entry-p.ensures) c.bound_contracted.ensures

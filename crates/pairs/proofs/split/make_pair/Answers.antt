@@ -8,4 +8,4 @@ returns-then-used-gt65532 c = rw (lt-ltb _ _ c.if-used-gt65532.true)
 
 pub returns : goal.returns
 unfolding pair_made
-returns c = rw (le-ltb _ _ c.if-used-gt65532.false, ← c.link_at-l.ensures, ← c.append_pair.ensures, ← c.bind_parts-p.ensures) c.bound_contracted.ensures
+returns c = rw (le-ltb _ _ c.if-used-gt65532.false, ← c.link_at.ensures, ← c.from-place.ensures, ← c.append_pair.ensures, ← c.bind_parts-p.ensures) c.bound_contracted.ensures

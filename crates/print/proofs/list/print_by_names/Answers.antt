@@ -13,4 +13,4 @@ unfolding listing_text
 returns c =
     let a = c.args in
     let text = ap (λ (v : List ℕ). lines_text (symbol_text a.program.now a.job.now a.names.now) v a.sizes.samples a.first.lines 0 a.answer.now) c.front-job_cells.ensures in
-    printed _ _ _ _ _ _ _ _ c.opened-start.ensures c.clear.ensures (behind _ _ _ c.put_first-p.ensures (c.put_lines-q.ensures ∙ ap (puts _) text)) c.written.ensures
+    printed _ _ _ _ _ _ _ _ c.opened.ensures c.clear.ensures (behind _ _ _ c.put_first-p.ensures (c.put_lines-q.ensures ∙ ap (puts _) text)) c.written.ensures

@@ -1,8 +1,5 @@
 use Rattle.print.proofs.Printed.{sampled_promised}
 use Rattle.print.proofs.list.print_sampled.Goals as goal
 
-pub returns-in-Listing : goal.returns-in-Listing
-returns-in-Listing c = sampled_promised _ _ _ _ _ _ (rw (← c.heading_of-heading.ensures, c.in-Listing.is) c.print_named.ensures)
-
-pub returns-in-Refusal : goal.returns-in-Refusal
-returns-in-Refusal c = sampled_promised _ _ _ _ _ _ (rw (← c.heading_of-heading.ensures, c.in-Refusal.is) c.print_refusal.ensures)
+pub returns : goal.returns
+returns c = sampled_promised _ _ _ _ _ _ c.print_answer.ensures

@@ -21,7 +21,7 @@ consp-returns t c =
 pub eqa-returns : goal.eqa-returns
 eqa-returns t c =
     let k = c.term-s.ensures.1 in (
-      rw (← c.ahead.ensures, ← c.ea-c.ensures, ← c.ea-d.ensures, ← c.first.ensures, ← c.ahead-start.ensures, ← c.term-s.ensures.0, ← (term_kept _ _ _ _ _ _ _ _ _ k), ← c.term-u.ensures.0, ← c.ahead-2.ensures, ← c.branched.ensures),
+      rw (← c.ahead.ensures, ← c.ea-c.ensures, ← c.ea-d.ensures, ← c.and.ensures, ← c.uses_only-asked.ensures, ← c.ahead-start.ensures, ← c.term-s.ensures.0, ← (term_kept _ _ _ _ _ _ _ _ _ k), ← c.term-u.ensures.0, ← c.ahead-2.ensures, ← c.branched.ensures),
       kept_on (le_refl _) k c.term-u.ensures.1,
     )
 

@@ -11,4 +11,4 @@ pub returns : goal.returns
 returns c =
     let a = c.args in
     promised a.program.now a.job.now a.work.now a.answer.now
-    (list_said a.program.now a.job.now a.work.now a.answer.now (inv c.short_for_lines.ensures ∙ c.if-short_for_lines.false) c.list_texts.ensures c.answer-1.given)
+    (list_said a.program.now a.job.now a.work.now a.answer.now (inv c.short_for_lines.ensures ∙ c.if-short_for_lines.false) c.list_texts.ensures c.list_texts.auto.answer)

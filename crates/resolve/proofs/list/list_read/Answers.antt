@@ -1,22 +1,18 @@
+use mathlib.Core.Path.{◌≡◌, refl}
+use borrow.Author.Rules.{rules}
+use Rattle.std.specs.Prelude.{Err}
 use Rattle.resolve.specs.Twins.ListCells.{listed_read}
 use Rattle.resolve.proofs.ListMeaning.{walked_behind}
-use mathlib.Core.Path.{refl}
 use Rattle.resolve.proofs.list.list_read.Goals as goal
 
-pub returns-in-Program : goal.returns-in-Program
+pub returns-in_err-both : goal.returns-in_err-both
 unfolding listed_read
-returns-in-Program c = rw (c.in-Program.is, c.of_program.ensures) refl
+returns-in_err-both c =
+    let e : c.from_residual.result ≡ Err c.in_err-both.field-0.0 = search rules in
+    rw (e, c.in_err-both.was) refl
 
-pub returns-in-Job : goal.returns-in-Job
-unfolding listed_read
-returns-in-Job c = rw c.in-Job.is refl
-
-pub returns-in-Short : goal.returns-in-Short
-unfolding listed_read
-returns-in-Short c = rw c.in-Short.is refl
-
-pub returns-in-Accepted : goal.returns-in-Accepted
-returns-in-Accepted c =
+pub returns : goal.returns
+returns c =
     let a = c.args in
-    rw c.in-Accepted.is
-    (walked_behind a.answer.now a.marks.now a.nums.now a.ends.now a.heads.now a.jmarks.now a.jnums.now _ _ _ _ c.link_program.ensures c.program_end-tokens.ensures c.main_body-body.ensures c.clear.ensures c.walk_job-walked.ensures c.came_to.ensures)
+    rw c.in_ok-both.was
+    (walked_behind a.answer.now a.marks.now a.nums.now a.ends.now a.heads.now a.jmarks.now a.jnums.now c.in_ok-both.both c.link_program.ensures c.program_end-tokens.ensures c.main_body-body.ensures c.clear.ensures c.walk_job-walked.ensures c.came_to.ensures)

@@ -6,6 +6,3 @@ use Rattle.restrictions.proofs.restriction.simplify.Given as goal
 
 abbrev pub invariant-loop-i : goal.invariant-loop-i
 invariant-loop-i l = (l.count ≡ min l.n (length l.initial.q / 2)) × (l.i ≤ l.count) × (l.kept ≤ l.i) × (length l.q ≡ length l.initial.q) × (simplify_cells l.n l.initial.q ≡ simplify_from (l.count - l.i) l.i l.kept l.q)
-
-abbrev pub decreases-loop-i : goal.decreases-loop-i
-decreases-loop-i l = l.count - l.i

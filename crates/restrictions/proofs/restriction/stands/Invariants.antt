@@ -6,6 +6,3 @@ use Rattle.restrictions.proofs.restriction.stands.Given as goal
 
 abbrev pub invariant-loop-i : goal.invariant-loop-i
 invariant-loop-i l = (l.count ≡ min l.n (length l.q / 2)) × (l.i ≤ l.count) × (stands_cells l.n l.x l.y l.q ≡ stands_cells (l.n - l.i) l.x l.y (drop (2 * l.i) l.q))
-
-abbrev pub decreases-loop-i : goal.decreases-loop-i
-decreases-loop-i l = l.count - l.i

@@ -5,13 +5,8 @@ use native.Mathlib.Omega.{arith}
 use lib.Seq.{sets}
 use Rattle.sets.specs.Twins.Fill.{spread}
 use Rattle.runs.specs.Twins.Runs.{run}
-use Rattle.runs.proofs.RunLaws.{below_self, below_set, run_end, rename_start, rename_turn}
+use Rattle.runs.proofs.RunLaws.{below_set, run_end, rename_turn}
 use Rattle.runs.proofs.run.rename.Goals as goal
-
-pub loop-i-init : goal.loop-i-init
-loop-i-init c =
-    let a = c.args in
-    (omega arith, below_self, rename_start a.x a.y a.from a.end a.used a.heap.now)
 
 pub loop-i-preserved : goal.loop-i-preserved
 loop-i-preserved c =

@@ -13,7 +13,7 @@ loop-i-init c = (search rules, refl)
 pub loop-i-preserved : goal.loop-i-preserved
 loop-i-preserved c =
     let a = c.args in
-    (search rules, c.loop-i.invariant.1 ∙ copied_more a.symbols.now c.loop-i.i c.loop-i.table (2048 - c.loop-i.i) (2048 - (c.loop-i.i + 1)) (omega arith) ∙ ap (λ x. copied_from a.symbols.now (2048 - (c.loop-i.i + 1)) (c.loop-i.i + 1) (set c.loop-i.table c.loop-i.i x)) (sym c.entry_at.ensures))
+    (search rules, c.loop-i.invariant.1 ∙ copied_more a.symbols.now c.loop-i.i c.loop-i.table (2048 - c.loop-i.i) (2048 - (c.loop-i.i + 1)) (omega arith) ∙ ap (λ x. copied_from a.symbols.now (2048 - (c.loop-i.i + 1)) (c.loop-i.i + 1) (set c.loop-i.table c.loop-i.i x)) (search rules))
 
 pub returns : goal.returns
 returns c =

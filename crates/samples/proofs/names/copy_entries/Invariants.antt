@@ -5,6 +5,3 @@ use Rattle.samples.proofs.names.copy_entries.Given as goal
 
 abbrev pub invariant-loop-i : goal.invariant-loop-i
 invariant-loop-i l = (l.i ≤ 2048) × (copied_from l.symbols 2048 0 l.initial.table ≡ copied_from l.symbols (2048 - l.i) l.i l.table)
-
-abbrev pub decreases-loop-i : goal.decreases-loop-i
-decreases-loop-i l = 2048 - l.i

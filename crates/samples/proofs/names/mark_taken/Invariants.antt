@@ -6,6 +6,3 @@ use Rattle.samples.proofs.names.mark_taken.Given as goal
 
 abbrev pub invariant-loop-k : goal.invariant-loop-k
 invariant-loop-k l = (l.count ≡ length l.symbols / 2) × (l.k ≤ l.count) × (marked_from l.program l.job l.symbols l.count 0 l.initial.taken ≡ marked_from l.program l.job l.symbols (l.count - l.k) l.k l.taken)
-
-abbrev pub decreases-loop-k : goal.decreases-loop-k
-decreases-loop-k l = l.count - l.k

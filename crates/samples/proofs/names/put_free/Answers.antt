@@ -9,19 +9,19 @@ use Rattle.samples.proofs.names.put_free.Goals as goal
 pub loop-n-init : goal.loop-n-init
 loop-n-init c = (search rules, search rules, search rules, refl)
 
-pub loop-n-preserved-then-mark-eq0 : goal.loop-n-preserved-then-mark-eq0
-loop-n-preserved-then-mark-eq0 c =
+pub loop-n-preserved : goal.loop-n-preserved
+loop-n-preserved c =
     let a = c.args in (
       search rules,
       search rules,
       search rules,
-      c.loop-n.invariant.3 ∙ free_one a.taken.now c.loop-n.n c.loop-n.at c.loop-n.table (5121 - c.loop-n.n) (5121 - (c.loop-n.n + 1)) (omega arith) c.if-mark-eq0.true ∙ ap (free_from a.taken.now (5121 - (c.loop-n.n + 1)) (c.loop-n.n + 1) (c.loop-n.at + 1)) (sym c.put.ensures),
+      c.loop-n.invariant.3 ∙ free_one a.taken.now c.loop-n.n c.loop-n.at c.loop-n.table (5121 - c.loop-n.n) (5121 - (c.loop-n.n + 1)) (omega arith) c.if-taken-n-ne0.false ∙ ap (free_from a.taken.now (5121 - (c.loop-n.n + 1)) (c.loop-n.n + 1) (c.loop-n.at + 1)) (sym c.put.ensures),
     )
 
-pub loop-n-preserved : goal.loop-n-preserved
-loop-n-preserved c =
+pub loop-n-preserved-then-taken-n-ne0 : goal.loop-n-preserved-then-taken-n-ne0
+loop-n-preserved-then-taken-n-ne0 c =
     let a = c.args in
-    (search rules, search rules, search rules, c.loop-n.invariant.3 ∙ free_other a.taken.now c.loop-n.n c.loop-n.at c.loop-n.table (5121 - c.loop-n.n) (5121 - (c.loop-n.n + 1)) (omega arith) c.if-mark-eq0.false)
+    (search rules, search rules, search rules, c.loop-n.invariant.3 ∙ free_other a.taken.now c.loop-n.n c.loop-n.at c.loop-n.table (5121 - c.loop-n.n) (5121 - (c.loop-n.n + 1)) (omega arith) c.if-taken-n-ne0.true)
 
 pub returns : goal.returns
 returns c =

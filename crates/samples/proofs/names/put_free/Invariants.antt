@@ -5,6 +5,3 @@ use Rattle.samples.proofs.names.put_free.Given as goal
 
 abbrev pub invariant-loop-n : goal.invariant-loop-n
 invariant-loop-n l = (l.n ≤ 5121) × (1 ≤ l.n) × (l.at ≤ 2048 + l.n) × (free_from l.taken 5120 1 2048 l.initial.table ≡ free_from l.taken (5121 - l.n) l.n l.at l.table)
-
-abbrev pub decreases-loop-n : goal.decreases-loop-n
-decreases-loop-n l = 5121 - l.n

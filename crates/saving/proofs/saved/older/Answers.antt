@@ -1,10 +1,7 @@
-use mathlib.Core.Path.{refl, ◌∙◌, sym as inv}
+use mathlib.Core.Path.{◌∙◌, sym as inv}
 use native.Mathlib.Omega.{arith}
 use Rattle.saving.proofs.OlderTurns.{begins_below, older_end, older_here, older_turn}
 use Rattle.saving.proofs.saved.older.Goals as goal
-
-pub loop-t-init : goal.loop-t-init
-loop-t-init c = refl
 
 pub returns-then-is_low : goal.returns-then-is_low
 returns-then-is_low c =

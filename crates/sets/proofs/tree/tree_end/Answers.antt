@@ -6,9 +6,6 @@ use Rattle.sets.proofs.Turns.{walk_none, walk_end, walk_pair, walk_leaf, walk_fo
 use Rattle.sets.proofs.tree.tree_end.Goals as goal
 use Rattle.sets.proofs.tree.tree_end.Goals.{then-s-i-eq-PAIR, else-s-i-eq-PAIR}
 
-pub loop-i-init : goal.loop-i-init
-loop-i-init c = (omega arith, refl)
-
 pub returns-then-need-eq0 : goal.returns-then-need-eq0
 unfolding tree_end
 returns-then-need-eq0 c =

@@ -7,6 +7,3 @@ use Rattle.syntax.proofs.ends.mark_ends.Given as goal
 
 abbrev pub invariant-loop-i : goal.invariant-loop-i
 invariant-loop-i l = (ends_from (key_at l.marks l.n) l.n l.n 0 l.initial.ends ≡ ends_from (key_at l.marks l.n) l.n (l.n - l.i) l.i l.ends) × (length l.ends ≡ length l.initial.ends)
-
-abbrev pub decreases-loop-i : goal.decreases-loop-i
-decreases-loop-i l = l.n - l.i

@@ -6,6 +6,3 @@ use Rattle.syntax.proofs.heads.store.Given as goal
 
 abbrev pub invariant-loop-j : goal.invariant-loop-j
 invariant-loop-j l = (heads_from l.from l.count 0 l.initial.heads ≡ heads_from l.from (l.count - l.j) l.j l.heads) × (length l.heads ≡ length l.initial.heads)
-
-abbrev pub decreases-loop-j : goal.decreases-loop-j
-decreases-loop-j l = l.count - l.j

@@ -1,23 +1,19 @@
 use mathlib.Core.Path.{refl, sym, ◌∙◌}
-use Rattle.texts.proofs.ReadLaws.{job_short, job_bytes_lem}
+use Rattle.texts.proofs.ReadLaws.{job_short, job_found}
 use Rattle.texts.proofs.Reading.{job_out}
 use Rattle.texts.proofs.read_job.read_job.Goals as goal
 
 pub returns-then-not-long_enough : goal.returns-then-not-long_enough
 returns-then-not-long_enough c =
-    job_out c.args.runs c.args.program.now c.args.main.now c.args.m c.args.text.now c.args.marks.now c.args.nums.now c.args.ats.now c.args.symbols.now c.args.before c.args.names.now (
-    rw (job_short c.args.marks.now c.args.nums.now c.args.ats.now c.args.symbols.now c.args.names.now c.args.runs c.args.program.now c.args.main.now c.args.m c.args.text.now c.args.before (sym c.long_enough.ensures ∙ c.if-not-long_enough.true))
+    let b = c.args.before in
+    job_out c.args.runs b.text.now b.marks.now b.tokens c.args.text.now c.args.marks.now c.args.nums.now c.args.ats.now c.args.symbols.now b.symbols c.args.names.now (
+    rw (job_short c.args.marks.now c.args.nums.now c.args.ats.now c.args.symbols.now c.args.names.now c.args.runs b.text.now b.marks.now b.tokens c.args.text.now b.symbols (sym c.long_enough.ensures ∙ c.if-not-long_enough.true))
     (record { answer = refl; marks_out = refl; nums_out = refl; ats_out = refl; symbols_out = refl; names_out = refl }))
 
-pub returns-in-Refused : goal.returns-in-Refused
-returns-in-Refused c =
-    let z = c.clear_tokens.ensures in
-    job_out c.args.runs c.args.program.now c.args.main.now c.args.m c.args.text.now c.args.marks.now c.args.nums.now c.args.ats.now c.args.symbols.now c.args.before c.args.names.now (
-    rw (job_bytes_lem c.args.marks.now c.args.nums.now c.args.ats.now c.args.symbols.now c.args.names.now c.args.runs c.args.program.now c.args.main.now c.args.m c.args.text.now c.args.before (sym c.long_enough.ensures ∙ c.if-not-long_enough.false) _ (sym c.sound_job-sound.ensures ∙ c.in-Refused.is))
-    (record { answer = refl; marks_out = z.0; nums_out = z.1; ats_out = z.2; symbols_out = z.3; names_out = c.clear.ensures }))
-
-pub returns-in-Past : goal.returns-in-Past
-returns-in-Past c =
-    job_out c.args.runs c.args.program.now c.args.main.now c.args.m c.args.text.now c.args.marks.now c.args.nums.now c.args.ats.now c.args.symbols.now c.args.before c.args.names.now (
-    rw (job_bytes_lem c.args.marks.now c.args.nums.now c.args.ats.now c.args.symbols.now c.args.names.now c.args.runs c.args.program.now c.args.main.now c.args.m c.args.text.now c.args.before (sym c.long_enough.ensures ∙ c.if-not-long_enough.false) _ (sym c.sound_job-sound.ensures ∙ c.in-Past.is))
-    c.cut_job.ensures)
+pub returns : goal.returns
+returns c =
+    let b = c.args.before in
+    let f = c.find_job-found in
+    job_out c.args.runs b.text.now b.marks.now b.tokens c.args.text.now c.args.marks.now c.args.nums.now c.args.ats.now c.args.symbols.now b.symbols c.args.names.now (
+    rw (sym (job_found c.args.marks.now c.args.nums.now c.args.ats.now c.args.symbols.now c.args.names.now c.args.runs b.text.now b.marks.now b.tokens c.args.text.now b.symbols (sym c.long_enough.ensures ∙ c.if-not-long_enough.false) _ _ _ _ _ f.auto.marks f.auto.nums f.auto.ats f.auto.symbols f.auto.names _ f.ensures))
+    c.settle.ensures)

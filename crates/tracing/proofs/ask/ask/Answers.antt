@@ -1,19 +1,22 @@
+use native.Mathlib.Omega.{arith}
+use borrow.Author.Tests.{ne_eqb}
 use Rattle.tracing.specs.Twins.Asking.{asked_at}
-use borrow.Author.Tests.{eq-eqb, ne_eqb}
 use Rattle.tracing.proofs.ask.ask.Goals as goal
 
-pub returns-then-mark-eq-CALL : goal.returns-then-mark-eq-CALL
+pub returns-in-3 : goal.returns-in-3
 unfolding asked_at
-returns-then-mark-eq-CALL c = rw (← c.link_at-l.ensures, eq-eqb _ _ c.if-mark-eq-CALL.true)
+returns-in-3 c = rw (← c.link_at.ensures, c.in-3.is)
 
-pub returns-then-mark-eq-SAME : goal.returns-then-mark-eq-SAME
+pub returns-in-4 : goal.returns-in-4
 unfolding asked_at
-returns-then-mark-eq-SAME c = rw (← c.link_at-l.ensures, ne_eqb _ _ c.if-mark-eq-CALL.false, eq-eqb _ _ c.if-mark-eq-SAME.true, ← c.sides_at-s.ensures)
+returns-in-4 c = rw (← c.link_at.ensures, c.in-4.is, ← c.sides_at-s.ensures)
 
-pub returns-then-mark-eq-TEST : goal.returns-then-mark-eq-TEST
+pub returns-in-5 : goal.returns-in-5
 unfolding asked_at
-returns-then-mark-eq-TEST c = rw (← c.link_at-l.ensures, ne_eqb _ _ c.if-mark-eq-CALL.false, ne_eqb _ _ c.if-mark-eq-SAME.false, eq-eqb _ _ c.if-mark-eq-TEST.true, ← c.look-t.ensures)
+returns-in-5 c = rw (← c.link_at.ensures, c.in-5.is, ← c.look.ensures)
 
-pub returns : goal.returns
+pub returns-in_default : goal.returns-in_default
 unfolding asked_at
-returns c = rw (← c.link_at-l.ensures, ne_eqb _ _ c.if-mark-eq-CALL.false, ne_eqb _ _ c.if-mark-eq-SAME.false, ne_eqb _ _ c.if-mark-eq-TEST.false)
+returns-in_default c =
+    let m = c.link_at.result.mark in
+    rw (← c.link_at.ensures, ne_eqb m 3 (λ e. omega arith), ne_eqb m 4 (λ e. omega arith), ne_eqb m 5 (λ e. omega arith))

@@ -1,15 +1,18 @@
-use borrow.Author.Tests.{eq-eqb, ne_eqb}
+use native.Mathlib.Omega.{arith}
+use borrow.Author.Tests.{ne_eqb}
 use Rattle.values.specs.Twins.Values.{token_written}
 use Rattle.values.proofs.tokens.push_token.Goals as goal
 
-pub returns-then-mark-eq-CELL : goal.returns-then-mark-eq-CELL
+pub returns-in-1 : goal.returns-in-1
 unfolding token_written
-returns-then-mark-eq-CELL c = rw (← c.link_at-l.ensures, eq-eqb _ _ c.if-mark-eq-CELL.true, ← c.push_cell.ensures)
+returns-in-1 c = rw (← c.link_at-l.ensures, c.in-1.is, ← c.push_cell.ensures)
 
-pub returns-then-mark-eq-NAME : goal.returns-then-mark-eq-NAME
+pub returns-in-2 : goal.returns-in-2
 unfolding token_written
-returns-then-mark-eq-NAME c = rw (← c.link_at-l.ensures, ne_eqb _ _ c.if-mark-eq-CELL.false, eq-eqb _ _ c.if-mark-eq-NAME.true, ← c.place_at.ensures, ← c.entry_at-e.ensures, ← c.append.ensures)
+returns-in-2 c = rw (← c.link_at-l.ensures, c.in-2.is, ← c.place_at.ensures, ← c.entry_at-e.ensures, ← c.append.ensures)
 
-pub returns : goal.returns
+pub returns-in_default : goal.returns-in_default
 unfolding token_written
-returns c = rw (← c.link_at-l.ensures, ne_eqb _ _ c.if-mark-eq-CELL.false, ne_eqb _ _ c.if-mark-eq-NAME.false)
+returns-in_default c =
+    let m = c.link_at-l.result.mark in
+    rw (← c.link_at-l.ensures, ne_eqb m 1 (λ e. omega arith), ne_eqb m 2 (λ e. omega arith))

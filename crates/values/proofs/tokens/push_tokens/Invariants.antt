@@ -6,6 +6,3 @@ use Rattle.values.proofs.tokens.push_tokens.Given as goal
 abbrev pub invariant-loop-j : goal.invariant-loop-j
 invariant-loop-j l =
     tokens_written l.code l.frame l.base (l.to - l.i) l.i l.used l.initial.heap ≡ tokens_written l.code l.frame l.base (l.to - l.j) l.j l.k l.heap
-
-abbrev pub decreases-loop-j : goal.decreases-loop-j
-decreases-loop-j l = l.to - l.j

@@ -2,18 +2,15 @@ use borrow.Author.Tests.{eq-eqb, ne_eqb, lt-ltb, le-ltb}
 use Rattle.values.specs.Twins.Values.{value_at}
 use Rattle.values.proofs.value.value.Goals as goal
 
-pub returns-then-mark-eq-NAME : goal.returns-then-mark-eq-NAME
+pub returns-then-l-eq-NAME : goal.returns-then-l-eq-NAME
 unfolding value_at
-returns-then-mark-eq-NAME c = rw (← c.link_at-l.ensures, eq-eqb _ _ c.if-mark-eq-NAME.true, ← c.place_at.ensures, ← c.entry_at-e.ensures)
+returns-then-l-eq-NAME c = rw (← c.link_at-l.ensures, eq-eqb _ _ c.if-l-eq-NAME.true, ← c.place_at.ensures, ← c.entry_at-e.ensures)
 
 pub returns-then-k : goal.returns-then-k
 unfolding value_at
-returns-then-k c = rw (← c.link_at-l.ensures, ne_eqb _ _ c.if-mark-eq-NAME.false, ← c.constant_at-k.ensures, lt-ltb _ _ c.if-k.true)
-
-pub make-requires : goal.make-requires
-make-requires c = c.wide.ensures.1
+returns-then-k c = rw (← c.link_at-l.ensures, ne_eqb _ _ c.if-l-eq-NAME.false, ← c.constant_at-k.ensures, lt-ltb _ _ c.if-k.true)
 
 pub returns : goal.returns
 unfolding value_at
 returns c =
-    rw (← c.link_at-l.ensures, ne_eqb _ _ c.if-mark-eq-NAME.false, ← c.constant_at-k.ensures, le-ltb _ _ c.if-k.false, ← c.wide.ensures.0, ← c.make.ensures)
+    rw (← c.link_at-l.ensures, ne_eqb _ _ c.if-l-eq-NAME.false, ← c.constant_at-k.ensures, le-ltb _ _ c.if-k.false, ← c.from.ensures, ← c.make.ensures)

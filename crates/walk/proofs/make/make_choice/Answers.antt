@@ -4,7 +4,7 @@ use Rattle.walk.proofs.make.make_choice.Goals as goal
 pub returns-then-is_spent : goal.returns-then-is_spent
 returns-then-is_spent c =
     let a = c.args in
-    choice_spends a.code.now a.b a.s a.heap.now a.frame.now a.q.now a.path.now a.saved.now c.ask-a.ensures c.branches-w.ensures c.record_choice-at.ensures c.is_spent.ensures c.if-is_spent.true
+    rw c.stopped.ensures (choice_spends a.code.now a.b a.s a.heap.now a.frame.now a.q.now a.path.now a.saved.now c.ask-a.ensures c.branches-w.ensures c.record_choice-at.ensures c.is_spent.ensures c.if-is_spent.true)
 
 pub returns : goal.returns
 returns c =

@@ -1,21 +1,23 @@
-use mathlib.Core.Path.{refl, ◌∙◌}
+use Prim.Native.Nat.{◌+◌, ◌-◌}
+use mathlib.Core.Path.{◌≡◌, refl, ◌∙◌}
+use native.Mathlib.Omega.{arith}
 use Rattle.walk.proofs.WalkTurns.{walk_again, walk_end}
 use Rattle.walk.proofs.walk.walk_on.Goals as goal
 
-pub loop-left-init : goal.loop-left-init
-loop-left-init c = (refl, refl)
+pub loop-init : goal.loop-init
+loop-init c = let e : c.min-end.result + 1 - 0 ≡ c.min-end.result + 1 = omega arith in (rw e, refl)
 
-pub shape_of-answer-in-Stop : goal.shape_of-answer-in-Stop
-shape_of-answer-in-Stop c = c.answer-1.given ∙ c.loop-left.invariant.1
+pub shape_of-answer-in-Err : goal.shape_of-answer-in-Err
+shape_of-answer-in-Err c = c.answer-1.given ∙ c.loop.invariant.1
 
-pub returns-in-Stop : goal.returns-in-Stop
-returns-in-Stop c = rw (← c.least-left.ensures, c.loop-left.invariant.0, walk_again c.loop-left-test.true, ← c.walk_turn-t.ensures, c.in-Stop.is, ← c.stopped.ensures)
+pub returns-in-Err : goal.returns-in-Err
+returns-in-Err c = rw (← c.min-end.ensures, c.loop.invariant.0, walk_again c.loop-test.true, ← c.in-Err.ensures)
 
-pub loop-left-preserved : goal.loop-left-preserved
-loop-left-preserved c = (rw (c.loop-left.invariant.0, walk_again c.loop-left-test.true, ← c.walk_turn-t.ensures, c.in-On.is), c.answer-1.given ∙ c.loop-left.invariant.1)
+pub loop-preserved : goal.loop-preserved
+loop-preserved c = (rw (c.loop.invariant.0, walk_again c.loop-test.true, ← c.in-Ok.ensures), c.answer-1.given ∙ c.loop.invariant.1)
 
 pub shape_of-answer : goal.shape_of-answer
-shape_of-answer c = c.loop-left.invariant.1
+shape_of-answer c = c.loop.invariant.1
 
 pub returns : goal.returns
-returns c = rw (← c.least-left.ensures, c.loop-left.invariant.0, walk_end c.loop-left-test.false, ← c.stopped-2.ensures)
+returns c = rw (← c.min-end.ensures, c.loop.invariant.0, walk_end c.loop-test.false, ← c.stopped.ensures)

@@ -1,4 +1,4 @@
-use mathlib.Core.Path.{refl, ap, ◌∙◌, sym}
+use mathlib.Core.Path.{ap, ◌∙◌, sym}
 use Rattle.window.specs.Twins.Sink.{puts}
 use Rattle.window.proofs.SinkLaws.{onward, puts_none}
 use Rattle.window.specs.Twins.TreeText.{symbol_text}
@@ -6,7 +6,7 @@ use Rattle.writer.proofs.TextTurns.{bindings_start, bindings_step, bindings_end}
 use Rattle.writer.proofs.binding.put_bindings.Goals as goal
 
 pub loop-i-init : goal.loop-i-init
-loop-i-init c = (refl, ap (puts _) (bindings_start _ _ _))
+loop-i-init c = ap (puts _) (bindings_start _ _ _)
 
 pub loop-i-preserved : goal.loop-i-preserved
 loop-i-preserved c =
@@ -14,11 +14,8 @@ loop-i-preserved c =
     let h = c.loop-i-test.true in
     let name = symbol_text a.program.now a.job.now a.symbols.now in
     let step = bindings_step name a.io.now a.line.now c.loop-i.i c.loop-i.k h in
-    (c.put_binding-p.auto.out ∙ c.loop-i.invariant.0, onward _ _ _ _ _ (c.loop-i.invariant.1 ∙ ap (puts _) (rw (← c.past-end.ensures) at step)) c.put_binding-p.ensures)
-
-pub shape_of-out : goal.shape_of-out
-shape_of-out c = c.loop-i.invariant.0
+    onward _ _ _ _ _ (c.loop-i.invariant ∙ ap (puts _) (rw (← c.past-end.ensures) at step)) c.put_binding-p.ensures
 
 pub returns : goal.returns
 returns c =
-    sym (c.loop-i.invariant.1 ∙ ap (puts _) (bindings_end _ _ _ c.loop-i.i c.loop-i.k c.loop-i-test.false) ∙ puts_none _)
+    sym (c.loop-i.invariant ∙ ap (puts _) (bindings_end _ _ _ c.loop-i.i c.loop-i.k c.loop-i-test.false) ∙ puts_none _)

@@ -1,4 +1,4 @@
-use mathlib.Core.Path.{refl, ap, ◌∙◌, sym as inv}
+use mathlib.Core.Path.{ap, ◌∙◌, sym as inv}
 use Prim.Native.Nat.{ℕ, ◌+◌, ◌-◌, ◌<◌, min}
 use mathlib.Core.List.{List, ◌++◌}
 use native.Mathlib.Omega.{arith}
@@ -13,22 +13,16 @@ use Rattle.writer.proofs.TextTurns.{lines_start, lines_out, lines_step, lines_en
 use Rattle.writer.proofs.line.put_lines.Goals as goal
 
 pub loop-i-init : goal.loop-i-init
-loop-i-init c = (refl, ap (puts _) (lines_start _ _ _ _ _))
-
-pub shape_of-out-then-answer-at : goal.shape_of-out-then-answer-at
-shape_of-out-then-answer-at c = c.loop-i.invariant.0
+loop-i-init c = ap (puts _) (lines_start _ _ _ _ _)
 
 pub returns-then-answer-at : goal.returns-then-answer-at
 returns-then-answer-at c =
     let s = c.args.answer.now in
-    inv (c.loop-i.invariant.1 ∙ ap (puts _) (lines_out _ _ _ _ c.loop-i.i _ (omega (arith, c.if-answer-at.true, length-drop c.loop-i.at s))) ∙ puts_none _)
-
-pub shape_of-out-then-is_full : goal.shape_of-out-then-is_full
-shape_of-out-then-is_full c = c.loop-i.invariant.0
+    inv (c.loop-i.invariant ∙ ap (puts _) (lines_out _ _ _ _ c.loop-i.i _ (omega (arith, c.if-answer-at.true, length-drop c.loop-i.at s))) ∙ puts_none _)
 
 pub returns-then-is_full : goal.returns-then-is_full
 returns-then-is_full c =
-    inv (c.loop-i.invariant.1 ∙ puts_full _ _ _ (inv c.is_full.ensures ∙ c.if-is_full.true))
+    inv (c.loop-i.invariant ∙ puts_full _ _ _ (inv c.is_full.ensures ∙ c.if-is_full.true))
 
 pub loop-i-preserved : goal.loop-i-preserved
 loop-i-preserved c =
@@ -44,11 +38,8 @@ loop-i-preserved c =
     let put = c.put_line-l.ensures ∙ ap (puts _) (ap (line_text name a.io.now (c.loop-i.i + 1)) r) in
     let sampled = c.put_sample_if-p.ensures ∙ ap (puts _) (ap (sample_if name a.samples) r) in
     let here = line_text name a.io.now (c.loop-i.i + 1) (drop c.loop-i.at s) ++ sample_if name a.samples (drop c.loop-i.at s) in
-    (c.put_sample_if-p.auto.out ∙ c.put_line-l.auto.out ∙ c.loop-i.invariant.0, onward _ _ _ _ _ (c.loop-i.invariant.1 ∙ ap (puts _) (step ∙ ap (λ (t : List ℕ). here ++ t) next)) (behind _ _ _ put sampled))
-
-pub shape_of-out : goal.shape_of-out
-shape_of-out c = c.loop-i.invariant.0
+    onward _ _ _ _ _ (c.loop-i.invariant ∙ ap (puts _) (step ∙ ap (λ (t : List ℕ). here ++ t) next)) (behind _ _ _ put sampled)
 
 pub returns : goal.returns
 returns c =
-    inv (c.loop-i.invariant.1 ∙ ap (puts _) (lines_end _ _ _ _ c.loop-i.i _ c.loop-i-test.false) ∙ puts_none _)
+    inv (c.loop-i.invariant ∙ ap (puts _) (lines_end _ _ _ _ c.loop-i.i _ c.loop-i-test.false) ∙ puts_none _)

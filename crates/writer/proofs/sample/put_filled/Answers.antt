@@ -3,4 +3,4 @@ use Rattle.writer.proofs.sample.put_filled.Goals as goal
 
 pub returns : goal.returns
 unfolding filled_cells
-returns c = rw (← c.cell-ins.ensures, ← c.fill_line-n.ensures.0, ← c.fill_line-n.ensures.1) c.put_cells.ensures
+returns c = rw (← c.cell.ensures, ← c.from-ins.ensures, ← c.fill_line-n.ensures.0, ← c.fill_line-n.ensures.1) c.put_cells.ensures

@@ -1,0 +1,3 @@
+pub mod AnswerNumbers
+pub mod Faults
+pub mod RefusalNumbers
