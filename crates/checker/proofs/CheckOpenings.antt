@@ -4,7 +4,6 @@ use mathlib.Core.Path.{◌≡◌, refl, ap, ◌∙◌, sym}
 use mathlib.Core.Bool.{Bool, true, false, cond, ◌&&◌, ◌||◌, not}
 use mathlib.Core.List.{List}
 use native.Mathlib.Omega.{arith}
-use native.Mathlib.Numerals.{add-one}
 use borrow.Author.Tests.{eq-eqb, ne_eqb}
 use lib.Dec.{eqb}
 use lib.ListN.{get_or}
@@ -28,30 +27,14 @@ whole_count c = omega arith
 pub counted_on : (c j : ℕ) → j < c → c - j ≡ suc (c - (j + 1))
 counted_on c j l = omega arith
 
--- the name at i is the one at k, and k is less than u
-pub named_here : (kind num : ℕ → ℕ) (cells : List ℕ) (u k i : ℕ) → k < u → same_name kind num (get_or cells k 0) i ≡ true → is_named kind num cells u i ≡ true
+-- turns of `is_named`: the name at i is the last of the first u, or one of those before it
+pub named_none : (kind num : ℕ → ℕ) (cells : List ℕ) (u i : ℕ) → u ≡ 0 → is_named kind num cells u i ≡ false
 unfolding is_named
-named_here kind num cells zero k i h e = let z : ⊥ = omega arith in absurd z
-named_here kind num cells (suc u) k i h e = go (same_name kind num (get_or cells u 0) i) refl (λ l. named_here kind num cells u k i l e)
-  where
-    true_false : true ≡ false → ⊥
-    true_false y = cc
+named_none kind num cells u i e = rw e
 
-    below : (k ≡ u → ⊥) → k < u
-    below y = omega arith
-
-    go : (t : Bool) → same_name kind num (get_or cells u 0) i ≡ t → (k < u → is_named kind num cells u i ≡ true) → (t || is_named kind num cells u i) ≡ true
-    go true x again = refl
-    go false x again = again (below (λ z. true_false (sym e ∙ ap (λ j. same_name kind num (get_or cells j 0) i) z ∙ x)))
-
--- the name at i is none of the first k, nor the one at k
-pub named_none : (kind num : ℕ → ℕ) (cells : List ℕ) (i : ℕ) → is_named kind num cells 0 i ≡ false
+pub named_more : (kind num : ℕ → ℕ) (cells : List ℕ) (u k i : ℕ) → u ≡ suc k → is_named kind num cells u i ≡ (same_name kind num (get_or cells k 0) i || is_named kind num cells k i)
 unfolding is_named
-named_none kind num cells i = refl
-
-pub named_on : (kind num : ℕ → ℕ) (cells : List ℕ) (k i : ℕ) → is_named kind num cells k i ≡ false → same_name kind num (get_or cells k 0) i ≡ false → is_named kind num cells (k + 1) i ≡ false
-unfolding is_named
-named_on kind num cells k i e f = rw (add-one, f) e
+named_more kind num cells u k i e = rw e
 
 pub exp_none : {k : ℕ} → k ≡ 0 → (key kind num at : ℕ → ℕ) (n : ℕ) (sc : Names) (i : ℕ) → exp_at key kind num at n k sc i ≡ leaf_at key kind num at n sc i
 unfolding exp_at

@@ -23,12 +23,11 @@ fn same_name(ts: Tokens, i: usize, j: usize) -> bool
     )
 }
 
-// Whether the name at `i` is among the first `used` of `cells`.
-#[tactic(auto, using(crate::proofs::CheckOpenings::named_none, crate::proofs::CheckOpenings::named_on))]
+// Whether the name at `i` is among the first `used` of `cells`: looked for from the one bound last on, which is asked for most.
 pub fn is_named(ts: Tokens, cells: &[usize], used: usize, i: usize) -> bool
     ensures { result ≡ is_named ts.entry.marks.now ts.entry.nums.now ts.entry.n cells.now used i }
 {
-    for k in 0..used {
+    for k in (0..used).rev() {
         if same_name(ts, index(cells, k), i) {
             return true;
         }
@@ -69,6 +68,7 @@ pub fn binding(ts: Tokens, cells: &[usize], used: usize, c: Walked) -> Walked
 }
 
 // An e of one token: "9 variable not in reach".
+#[inline(always)]
 pub fn leaf(ts: Tokens, cells: &[usize], used: usize, i: usize) -> Walked
     ensures { result ≡ leaf_at ts.entry.marks.now ts.entry.nums.now ts.entry.ats.now ts.entry.n cells.now used i }
 {
@@ -95,8 +95,9 @@ pub fn exp(ts: Tokens, room: usize, cells: &[usize], used: usize, i: usize) -> W
     leaf(ts, cells, used, i)
 }
 
-// "`(cons e e)`".
+// "`(cons e e)`". Inlined, so that a bracket takes one frame of the stack.
 #[cycle(exp_pair)]
+#[inline(always)]
 pub fn pair(ts: Tokens, room: usize, cells: &[usize], used: usize, i: usize) -> Walked
     ensures { result ≡ pair_at ts.entry.marks.now ts.entry.nums.now ts.entry.ats.now ts.entry.n room cells.now used i }
 {

@@ -30,6 +30,8 @@ fn run_begun(
 }
 
 // A run of at most `steps` transitions of the linked program, whose tokens and heads begin main's body, on the inputs of the job with these parts.
+// Not inlined: its storages are to take no stack while the texts are read and linked.
+#[inline(never)]
 pub fn run_inputs(
     marks: &[u16],
     heads: &[u16; 64],

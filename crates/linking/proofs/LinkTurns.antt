@@ -1,6 +1,6 @@
 -- One turn of each loop, and the parts of a conditional one by one.
 use Prim.Native.Nat.{ℕ, zero, suc, ◌+◌, ◌-◌, ◌≤◌, ◌<◌, max}
-use mathlib.Core.Path.{◌≡◌, refl}
+use mathlib.Core.Path.{◌≡◌, refl, ◌∙◌}
 use mathlib.Core.Bool.{cond}
 use mathlib.Core.List.{List}
 use native.Mathlib.Omega.{arith}
@@ -20,9 +20,12 @@ some_left c j l = omega arith
 pub all_left : (c : ℕ) → c - 0 ≡ c
 all_left c = omega arith
 
-pub place_end : {n j : ℕ} → n ≤ j → j ≤ n → (marks nums names : List ℕ) (i : ℕ) → place_from marks nums names (n - j) j i ≡ n
+pub place_past : {n j : ℕ} → n ≤ j → (marks nums names : List ℕ) (i : ℕ) → place_from marks nums names (n - j) j i ≡ j
 unfolding place_from
-place_end {n} {j} l h marks nums names i = let e : j ≡ n = omega arith in rw (none_left n j l, e)
+place_past {n} {j} l marks nums names i = rw (none_left n j l)
+
+pub place_end : {n j : ℕ} → n ≤ j → j ≤ n → (marks nums names : List ℕ) (i : ℕ) → place_from marks nums names (n - j) j i ≡ n
+place_end {n} {j} l h marks nums names i = let e : j ≡ n = omega arith in place_past l marks nums names i ∙ e
 
 pub place_turn : {n j : ℕ} → j < n → (marks nums names : List ℕ) (i : ℕ) →
     place_from marks nums names (n - j) j i ≡ cond (same_name marks nums (get_or names j 0) i) j (place_from marks nums names (n - (j + 1)) (j + 1) i)

@@ -80,7 +80,8 @@ pub fn word_end(text: &[u8], from: usize) -> usize
 
 // Whether a word, in which none ends, stands at a place, and ends there.
 fn stands(text: &[u8], at: usize, word: &[u8]) -> bool {
-    part(text, at, word_end(text, at)) == word
+    let end = at.saturating_add(word.len());
+    part(text, at, end) == word && word_end(text, end) == end
 }
 
 // "Z have 1 to 16 letters or digits"

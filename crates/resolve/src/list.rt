@@ -49,7 +49,8 @@ fn came_to(w: Walked) -> Listed
 }
 
 // What was read of both texts: an accepted program linked and walked from the job's start. The lines stand in `answer`, zeros behind them; a
-// refusal leaves it as it is.
+// refusal leaves it as it is. Not inlined: the linked program is to take no stack while the texts are read.
+#[inline(never)]
 pub fn list_read(
     both: Result<Both, Refused>,
     marks: &[u16],

@@ -1,1 +1,2 @@
+pub mod RangeTurns
 pub mod RunLaws

@@ -5,14 +5,17 @@ ghost use Rattle.sets.specs.Twins.Copying.{copied, one_pair, four_pairs, behind_
 // The code of a pair: its two trees follow.
 pub const PAIR: u16 = 4;
 
-// Copies n cells from `from` on in src to dst from `at` on, if both have them; else nothing.
+// Copies n cells from `from` on in src to dst from `at` on, if both have them; else nothing. By a loop: `copy_from_slice` is compiled to a call of
+// `memmove`, a name that the archive for C then needs from outside.
 pub fn copy(src: &[u16], from: usize, n: usize, dst: &mut [u16], at: usize) -> bool
     ensures { let w = copied src.now from n dst.old at in (result ≡ w.done) × (dst.new ≡ w.cells) }
 {
     if src.len() < from || src.len() - from < n || dst.len() < at || dst.len() - at < n {
         return false;
     }
-    dst[at..at + n].copy_from_slice(&src[from..from + n]);
+    for i in 0..n {
+        dst[at + i] = src[from + i];
+    }
     true
 }
 

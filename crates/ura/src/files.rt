@@ -12,6 +12,9 @@ use streams::failure::{fail, name_too_long};
 // Room for a file's name.
 const NAME: usize = 4096;
 
+// A program's name behind more arguments than this has no job's name behind it: the argument behind these is read for that.
+const ARGUMENTS: usize = 65536;
+
 // The name that stands for standard input.
 const STANDARD_INPUT: &[u8] = b"-";
 
@@ -130,7 +133,7 @@ fn with_files<F: FnOnce(Named, Named) -> io::Result<()>>(
     let mut program_space = [0u8; PROGRAM];
     let mut job_space = [0u8; JOB];
     let a = name_at(rt, i, &mut program_name);
-    let b = name_at(rt, i.saturating_add(1), &mut job_name);
+    let b = name_at(rt, i.min(ARGUMENTS) + 1, &mut job_name);
     let program = read_named(rt, a, &mut program_space);
     let job = read_named(rt, b, &mut job_space);
     hand_on(program, job)

@@ -74,7 +74,8 @@ fn walk_begun(
 }
 
 // "A contradictory job has no start: whole, no lines, 0 transitions." The constants of the program, which has `count` tokens, are laid out behind the job, and
-// `code` says where.
+// `code` says where. Not inlined: its storages are to take no stack while the texts are read and linked.
+#[inline(never)]
 pub fn walk_job(
     code: &mut [u16; 24582],
     count: usize,
