@@ -80,8 +80,13 @@ pub fn word_end(text: &[u8], from: usize) -> usize
 
 // Whether a word, in which none ends, stands at a place, and ends there.
 fn stands(text: &[u8], at: usize, word: &[u8]) -> bool {
-    let end = at.saturating_add(word.len());
-    part(text, at, end) == word && word_end(text, end) == end
+    let rest = part(text, at, text.len());
+    for (i, b) in word.iter().enumerate() {
+        if byte(rest, i) != *b {
+            return false;
+        }
+    }
+    word_end(rest, word.len()) == word.len()
 }
 
 // "Z have 1 to 16 letters or digits"
